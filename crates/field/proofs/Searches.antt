@@ -1,0 +1,48 @@
+-- What `first` finds.
+use mathlib.Core.Path.{_≡_, refl, sym, _∙_, ap}
+use mathlib.Core.Bool.{Bool, true, false}
+use mathlib.Core.Logic.{inl, inr}
+use Prim.Native.Nat.{ℕ, zero, suc, _+_, _≤_, _<_}
+use native.Mathlib.Omega.{arith}
+use Rattle.std.proofs.shelf.Tests.{cases-eq, cases-bool}
+use Rattle.field.specs.Search.{first}
+
+fails : (t : Bool) → (t ≡ true → ⊥) → t ≡ false
+fails true h = absurd (h refl)
+fails false h = refl
+
+module _ (test : ℕ → Bool) where
+  -- one step of the search, at either answer of the test
+  stops : (i n : ℕ) → test i ≡ true → first test i (suc n) ≡ i
+  unfolding first
+  stops i n e = ap (λ t. elim t as (λ _. ℕ) [ true ↦ i | false ↦ first test (suc i) n ]) e
+
+  goes-on : (i n : ℕ) → test i ≡ false → first test i (suc n) ≡ first test (suc i) n
+  unfolding first
+  goes-on i n e = ap (λ t. elim t as (λ _. ℕ) [ true ↦ i | false ↦ first test (suc i) n ]) e
+
+  -- it finds the number that passes where none before does
+  pub first-is : (n i k : ℕ) → i ≤ k → k < i + n → test k ≡ true → ((j : ℕ) → i ≤ j → j < k → test j ≡ true → ⊥) → first test i n ≡ k
+  first-is zero i k low high passes before = absurd (omega arith)
+  first-is (suc n) i k low high passes before =
+      elim (cases-eq i k) [
+        | inl same ↦ stops i n (ap test same ∙ passes) ∙ same
+        | inr other ↦
+            goes-on i n (fails (test i) (before i (omega arith) (omega arith)))
+            ∙ first-is n (suc i) k (omega arith) (omega arith) passes (λ j l h. before j (omega arith) h)
+      ]
+
+  -- it answers 0 where none passes
+  pub first-none : (n i : ℕ) → ((j : ℕ) → test j ≡ true → ⊥) → first test i n ≡ 0
+  unfolding first
+  first-none zero i never = refl
+  first-none (suc n) i never = goes-on i n (fails (test i) (never i)) ∙ first-none n (suc i) never
+
+  pub first-below : (n i q : ℕ) → 0 < q → i + n ≤ q → first test i n < q
+  unfolding first
+  first-below zero i q pos fits = pos
+  first-below (suc n) i q pos fits =
+      elim (cases-bool (test i)) [
+        | inl e ↦ rw (stops i n e) (omega arith)
+        | inr e ↦ rw (goes-on i n e) (first-below n (suc i) q pos (omega arith))
+      ]

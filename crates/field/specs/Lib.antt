@@ -1,0 +1,3 @@
+pub mod Arith
+pub mod Search
+pub mod Codes
