@@ -5,4 +5,11 @@ pub mod Walks
 pub mod Cyclic
 pub mod Guarded
 pub mod Integers
+pub mod Bits
+pub mod Linear
+pub mod Polynomials
+pub mod BinaryLaws
+pub mod RootReturns
+pub mod Division
+pub mod Openings
 pub mod Computed

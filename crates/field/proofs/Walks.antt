@@ -1,12 +1,11 @@
 -- A walk from 1 by a step that first returns to 1 at n: its n places are all different and not 0, and where n is
 -- the number of codes but 0 every such code is one of them. The step is the product by a root, in any field.
-use mathlib.Core.Path.{_≡_, refl, sym, _∙_, ap, subst}
-use mathlib.Core.Bool.{true, false, not, _&&_}
+use mathlib.Core.Path.{_≡_, refl, sym, _∙_, ap}
 use mathlib.Core.Logic.{inl, inr}
 use Prim.Native.Nat.{ℕ, zero, suc, pred, _+_, _-_, _≤_, _<_}
 use native.Mathlib.Omega.{arith}
 use lib.Dec.{eqb}
-use Rattle.std.proofs.shelf.Tests.{cases-order, and-parts, not-true, eqb-true, eqb-false, eq-eqb}
+use Rattle.std.proofs.shelf.Tests.{cases-eq, cases-order, eqb-true, eq-eqb}
 use Rattle.field.specs.Arith.{iterate}
 use Rattle.field.specs.Search.{first, Returns}
 use Rattle.field.proofs.Pigeon.{onto}
@@ -20,6 +19,11 @@ module _ (step : ℕ → ℕ) where
   iterate-fixed : (x : ℕ) → step x ≡ x → (n : ℕ) → iterate step n x ≡ x
   iterate-fixed x e zero = refl
   iterate-fixed x e (suc n) = ap step (iterate-fixed x e n) ∙ e
+
+  -- no return up to n, and none at n
+  pub not-yet : (n x : ℕ) → x ≡ iterate step n 1 → (x ≡ 1 → ⊥) → ((k : ℕ) → 0 < k → k < n → iterate step k 1 ≡ 1 → ⊥) → (k : ℕ) → 0 < k → k < n + 1 → iterate step k 1 ≡ 1 → ⊥
+  not-yet n x is ne before k pos h e =
+      elim (cases-eq k n) [ inl same ↦ ne (is ∙ ap (λ j. iterate step j 1) (sym same) ∙ e) | inr other ↦ before k pos (omega arith) e ]
 
   -- the search for the first return finds it
   pub first-return : (n bound : ℕ) → Returns step n → n ≤ bound → first (λ e. eqb (iterate step e 1) 1) 1 bound ≡ n

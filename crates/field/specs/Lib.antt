@@ -1,3 +1,6 @@
 pub mod Arith
 pub mod Search
 pub mod Codes
+pub mod Binary
+pub mod Fault
+pub mod Opening

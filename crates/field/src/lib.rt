@@ -2,8 +2,16 @@
 ghost use mathlib.Core.Path.{_≡_};
 ghost use Rattle.field.specs.Arith.{Arith, Laws, power};
 
+mod binary;
+mod fault;
 mod prime;
 
+pub use binary::BinaryField;
+pub use binary::BinaryIsField;
+pub use fault::Fault;
+pub use fault::FieldFault;
+pub use fault::FieldFaultTells;
+pub use fault::Layer;
 pub use prime::PrimeField;
 pub use prime::PrimeIsField;
 

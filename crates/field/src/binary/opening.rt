@@ -1,0 +1,36 @@
+ghost use mathlib.Core.Path.{_≡_};
+ghost use Rattle.std.specs.Results.{mapped};
+ghost use Rattle.std.specs.Vec.{made};
+ghost use Rattle.field.specs.Opening.{opening, Root-returns, Product-is-remainder};
+ghost use Rattle.field.specs.contracts.binary.BinaryIsField.the-impl.{ghosts as binary};
+use crate::FieldFault;
+use crate::binary::BinaryField;
+use crate::binary::first_return;
+
+const LOWEST_DEGREE: u32 = 2;
+const HIGHEST_DEGREE: u32 = 10;
+
+impl BinaryField {
+    // The field of this degree whose products are reduced by this polynomial, bit i being its coefficient of x^i.
+    pub fn open(degree: u32, polynomial: u32) -> Result<BinaryField, FieldFault>
+        ensures answer { λ r. ⌜ mapped (binary .meaning) (λ fault. fault) r ≡ opening degree polynomial ⌝ }
+        ensures sound { λ r. ⌜ made r (binary .sound) ⌝ }
+        ensures root_returns { λ _. ⌜ Root-returns ⌝ }
+        ensures product_is_remainder { λ _. ⌜ Product-is-remainder ⌝ }
+    {
+        if degree < LOWEST_DEGREE || degree > HIGHEST_DEGREE {
+            return Err(FieldFault::Degree);
+        }
+        let size = 1 << degree;
+        if polynomial % 2 == 0 || polynomial < size || polynomial >= 2 * size {
+            return Err(FieldFault::Polynomial);
+        }
+        let degree = degree as u16;
+        let polynomial = polynomial as u16;
+        let exponent = u32::from(first_return(degree, polynomial));
+        if exponent != size - 1 {
+            return Err(FieldFault::RootOrder(exponent));
+        }
+        Ok(BinaryField { degree, polynomial })
+    }
+}
