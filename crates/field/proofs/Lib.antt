@@ -12,4 +12,5 @@ pub mod BinaryLaws
 pub mod RootReturns
 pub mod Division
 pub mod Openings
+pub mod Table
 pub mod Computed

@@ -18,7 +18,7 @@ module _ (m P : ℕ) where
   opening-degree h = let t : (ltb m 2 || ltb 10 m) ≡ true = grind (arith, tells) in cond-true (ltb m 2 || ltb 10 m) _ _ t
 
   module _ (low : 2 ≤ m) (high : m ≤ 10) where
-    degree-passes : (ltb m 2 || ltb 10 m) ≡ false
+    pub degree-passes : (ltb m 2 || ltb 10 m) ≡ false
     degree-passes = grind (arith, tells)
 
     pub opening-polynomial : (P % 2 ≡ 0) ⊎ ((P < 2 ^ m) ⊎ (2 ^ suc m ≤ P)) → opening m P ≡ Err Polynomial

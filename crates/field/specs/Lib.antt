@@ -4,3 +4,4 @@ pub mod Codes
 pub mod Binary
 pub mod Fault
 pub mod Opening
+pub mod Supplied

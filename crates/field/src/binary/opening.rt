@@ -2,6 +2,7 @@ ghost use mathlib.Core.Path.{_≡_};
 ghost use Rattle.std.specs.Results.{mapped};
 ghost use Rattle.std.specs.Vec.{made};
 ghost use Rattle.field.specs.Opening.{opening, Root-returns, Product-is-remainder};
+ghost use Rattle.field.specs.Supplied.{standard-opening};
 ghost use Rattle.field.specs.contracts.binary.BinaryIsField.the-impl.{ghosts as binary};
 use crate::FieldFault;
 use crate::binary::BinaryField;
@@ -9,6 +10,9 @@ use crate::binary::first_return;
 
 const LOWEST_DEGREE: u32 = 2;
 const HIGHEST_DEGREE: u32 = 10;
+
+// The supplied polynomials, from the lowest degree to the highest.
+const POLYNOMIALS: [u32; 9] = [7, 11, 19, 37, 67, 137, 285, 529, 1033];
 
 impl BinaryField {
     // The field of this degree whose products are reduced by this polynomial, bit i being its coefficient of x^i.
@@ -32,5 +36,16 @@ impl BinaryField {
             return Err(FieldFault::RootOrder(exponent));
         }
         Ok(BinaryField { degree, polynomial })
+    }
+
+    // The field of this degree by the supplied polynomial.
+    pub fn standard(degree: u32) -> Result<BinaryField, FieldFault>
+        ensures answer { λ r. ⌜ mapped (binary .meaning) (λ fault. fault) r ≡ standard-opening degree ⌝ }
+        ensures sound { λ r. ⌜ made r (binary .sound) ⌝ }
+    {
+        if degree < LOWEST_DEGREE || degree > HIGHEST_DEGREE {
+            return Err(FieldFault::Degree);
+        }
+        BinaryField::open(degree, POLYNOMIALS[(degree - LOWEST_DEGREE) as usize])
     }
 }
