@@ -41,6 +41,6 @@ module _ (m P : ℕ) (shape : Shape m P) where
   binary-laws ret =
       let four = four-codes in
       let sum = guarded-in (2 ^ m) bitXor in
-      field-laws (binary m P) binary-ring (omega arith) (omega arith) ret (λ a. refl) (omega arith) (omega arith)
+      field-laws (binary m P) binary-ring (omega arith) ret (omega arith) (λ a. refl) (omega arith) (omega arith)
       (λ a h. let z : a ≡ 0 = omega arith in rw z (sum 0 1 (omega arith) (omega arith)))
       (λ a h. let z : a ≡ 1 = omega arith in rw z (sum 1 1 (omega arith) (omega arith)))

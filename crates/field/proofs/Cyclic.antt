@@ -30,7 +30,7 @@ module _ (A : Arith) (R : Ring A) where
   no-inverse : (a : ℕ) → ((b : ℕ) → A .mul a b ≡ 0) → inverse (A .size) (A .mul) a ≡ 0
   no-inverse a none = first-none (λ b. eqb (A .mul a b) 1) (A .size) 0 (λ b t. let e = eqb-true _ _ t in let z = none b in omega arith)
 
-  module _ (full : suc (A .order) ≡ A .size) (root : A .root < A .size) (ret : Returns (A .mul (A .root)) (A .order)) where
+  module _ (full : suc (A .order) ≡ A .size) (ret : Returns (A .mul (A .root)) (A .order)) where
     power-full : (i : ℕ) → power (A .mul) (power (A .mul) (A .root) i) (A .order) ≡ 1
     power-full zero = power-of-one A R (A .order)
     power-full (suc i) =
@@ -58,9 +58,9 @@ module _ (A : Arith) (R : Ring A) where
           | inr ne ↦ sym (inverse-is a _ (power-code A R a (A .size - 2)) (fermat a ha ne))
         ]
 
-    pub field-laws : ((a : ℕ) → A .inv a ≡ inverse (A .size) (A .mul) a) → 2 ≤ A .ground → A .ground ≤ A .size
+    pub field-laws : A .root < A .size → ((a : ℕ) → A .inv a ≡ inverse (A .size) (A .mul) a) → 2 ≤ A .ground → A .ground ≤ A .size
         → ((a : ℕ) → suc a < A .ground → A .add a 1 ≡ suc a) → ((a : ℕ) → suc a ≡ A .ground → A .add a 1 ≡ 0) → Laws A
-    field-laws inv-is ground-low ground-high add-one add-one-last =
+    field-laws root inv-is ground-low ground-high add-one add-one-last =
         let low = R .size-low in
         record {
           ring = R;

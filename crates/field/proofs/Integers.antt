@@ -41,6 +41,6 @@ module _ (p g : ℕ) (low : 3 ≤ p) (high : p ≤ 1024) where
   modulo-laws root ret =
       let sum : ℕ → ℕ → ℕ = λ a b. (a + b) % p in
       let one : 1 < p = omega arith in
-      field-laws (modulo p g) modulo-ring (omega arith) root ret (λ a. refl) (omega arith) (omega arith)
+      field-laws (modulo p g) modulo-ring (omega arith) ret root (λ a. refl) (omega arith) (omega arith)
       (λ a h. let e : a + 1 ≡ suc a = omega arith in guarded-in p sum a 1 (omega arith) one ∙ ap (λ x. x % p) e ∙ nat.mod-eq-of-lt h)
       (λ a h. let e : a + 1 ≡ p = omega arith in guarded-in p sum a 1 (omega arith) one ∙ ap (λ x. x % p) e ∙ nat.mod-self p)

@@ -13,4 +13,5 @@ pub mod RootReturns
 pub mod Division
 pub mod Openings
 pub mod Table
+pub mod Kept
 pub mod Computed

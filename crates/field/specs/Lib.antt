@@ -5,3 +5,4 @@ pub mod Binary
 pub mod Fault
 pub mod Opening
 pub mod Supplied
+pub mod Any

@@ -1,6 +1,8 @@
 // What a refusal tells: the layer that refuses, the refusal's number, and a place.
 ghost use mathlib.Core.Path.{_≡_};
-ghost use Rattle.field.specs.Fault.{Told, field-fault};
+ghost use Rattle.std.specs.declared.option.Option.the-variants.{Some};
+ghost use Rattle.field.specs.Fault.{Told, field-fault, field-words, layer-name};
+use std::fmt;
 
 // The three parts of the software, from the lowest.
 #[derive(Clone, Copy, PartialEq, Eq, Debug)]
@@ -8,6 +10,18 @@ pub enum Layer {
     Field,
     Code,
     Station,
+}
+
+pub impl fmt::Display for Layer as LayerDisplay {
+    ghost shown = { λ l. Some (layer-name l) };
+
+    fn fmt<W: fmt::Write>(&self, f: &mut fmt::Formatter<W>) -> fmt::Result {
+        match self {
+            Layer::Field => f.write_str("field"),
+            Layer::Code => f.write_str("code"),
+            Layer::Station => f.write_str("station"),
+        }
+    }
 }
 
 // A refusal. The place is 0 where the refusal names none.
@@ -55,5 +69,26 @@ pub impl Fault for FieldFault as FieldFaultTells {
             FieldFault::Degree | FieldFault::Polynomial => 0,
             FieldFault::RootOrder(exponent) => *exponent,
         }
+    }
+}
+
+impl FieldFault {
+    fn words(&self) -> &'static str
+        ensures { λ r. ⌜ now r ≡ field-words (now (self .entry)) ⌝ }
+    {
+        match self {
+            FieldFault::Degree => "the degree must be 2 to 10",
+            FieldFault::Polynomial => "the polynomial must be odd and of this degree",
+            FieldFault::RootOrder(_) => "the root returns to 1 too early",
+        }
+    }
+}
+
+// What to do about it, in words.
+pub impl fmt::Display for FieldFault as FieldFaultDisplay {
+    ghost shown = { λ fault. Some (field-words fault) };
+
+    fn fmt<W: fmt::Write>(&self, f: &mut fmt::Formatter<W>) -> fmt::Result {
+        f.write_str(self.words())
     }
 }

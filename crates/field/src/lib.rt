@@ -2,16 +2,21 @@
 ghost use mathlib.Core.Path.{_≡_};
 ghost use Rattle.field.specs.Arith.{Arith, Laws, power};
 
+mod any;
 mod binary;
 mod fault;
 mod prime;
 
+pub use any::AnyField;
+pub use any::AnyIsField;
 pub use binary::BinaryField;
 pub use binary::BinaryIsField;
 pub use fault::Fault;
 pub use fault::FieldFault;
+pub use fault::FieldFaultDisplay;
 pub use fault::FieldFaultTells;
 pub use fault::Layer;
+pub use fault::LayerDisplay;
 pub use prime::PrimeField;
 pub use prime::PrimeIsField;
 

@@ -9,6 +9,7 @@ use crate::binary::BinaryField;
 use crate::binary::first_return;
 
 const LOWEST_DEGREE: u32 = 2;
+
 const HIGHEST_DEGREE: u32 = 10;
 
 // The supplied polynomials, from the lowest degree to the highest.

@@ -4,6 +4,7 @@ ghost use Rattle.field.specs.contracts.prime.PrimeIsField.the-impl.{ghosts as 
 use crate::prime::PrimeField;
 
 const MODULUS: u16 = 929;
+
 const ROOT: u16 = 3;
 
 impl PrimeField {

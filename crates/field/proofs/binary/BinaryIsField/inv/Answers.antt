@@ -1,8 +1,9 @@
 use mathlib.Core.Path.{sym, _∙_}
 use native.Mathlib.Omega.{arith}
 use Rattle.field.specs.Binary.{binary}
-use Rattle.field.proofs.BinaryLaws.{four-codes, binary-ring, binary-laws}
+use Rattle.field.proofs.BinaryLaws.{four-codes}
 use Rattle.field.proofs.Cyclic.{inverse-by-power}
+use Rattle.field.proofs.Kept.{binary-kept}
 use Rattle.field.proofs.binary.BinaryIsField.inv.Needs as need
 
 pub returns-then-a-size : need.returns-then-a-size
@@ -11,11 +12,9 @@ returns-then-a-size c s =
     let four = four-codes (f .degree) (f .polynomial) (f .shape) in
     let size = c .size-size .ensures tt in
     c .power .ensures tt
-    ∙ inverse-by-power (binary (f .degree) (f .polynomial)) (binary-ring (f .degree) (f .polynomial) (f .shape)) (omega arith) (omega arith) (f .returns) (c .args .a) (c .from .result)
-    (omega arith) (c .from .ensures ∙ size)
+    ∙ inverse-by-power (binary (f .degree) (f .polynomial)) (binary-kept f .ring) (omega arith) (f .returns) (c .args .a) (c .from .result) (omega arith) (c .from .ensures ∙ size)
 
 pub returns-else-a-size : need.returns-else-a-size
 returns-else-a-size c s =
-    let f = c .args .self .now in
     let size = c .size-size .ensures tt in
-    sym (binary-laws (f .degree) (f .polynomial) (f .shape) (f .returns) .inv-outside (c .args .a) (omega arith))
+    sym (binary-kept (c .args .self .now) .inv-outside (c .args .a) (omega arith))

@@ -1,5 +1,5 @@
-use Rattle.field.proofs.BinaryLaws.{binary-laws}
+use Rattle.field.proofs.Kept.{binary-kept}
 use Rattle.field.proofs.binary.BinaryIsField.the-impl.Needs as need
 
 pub keeps-law : need.keeps-law
-keeps-law f s = binary-laws (f .degree) (f .polynomial) (f .shape) (f .returns)
+keeps-law f s = binary-kept f
