@@ -7,6 +7,12 @@ use crate::Field;
 
 mod opening;
 
+// The ground codes are 0 and 1.
+const GROUND: u16 = 2;
+
+// The code of the polynomial x, which is the root.
+const X: u16 = 2;
+
 // Made by `BinaryField::open` alone: products are reduced by a polynomial of this degree, and the powers of
 // the root, which is x, are all codes but 0.
 #[derive(Clone, Copy)]
@@ -58,7 +64,7 @@ pub impl Field for BinaryField as BinaryIsField {
     }
 
     fn ground(&self) -> u16 {
-        2
+        GROUND
     }
 
     fn order(&self) -> u16 {
@@ -66,7 +72,7 @@ pub impl Field for BinaryField as BinaryIsField {
     }
 
     fn root(&self) -> u16 {
-        2
+        X
     }
 
     fn add(&self, a: u16, b: u16) -> u16 {

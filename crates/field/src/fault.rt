@@ -17,9 +17,9 @@ pub impl fmt::Display for Layer as LayerDisplay {
 
     fn fmt<W: fmt::Write>(&self, f: &mut fmt::Formatter<W>) -> fmt::Result {
         match self {
-            Layer::Field => f.write_str("field"),
-            Layer::Code => f.write_str("code"),
-            Layer::Station => f.write_str("station"),
+            Self::Field => f.write_str("field"),
+            Self::Code => f.write_str("code"),
+            Self::Station => f.write_str("station"),
         }
     }
 }

@@ -24,15 +24,12 @@ pub enum Question {
 }
 
 impl Command {
-    // The command in a line; none in an empty line or a comment.
+    // The command in a line; none in an empty one.
     pub(crate) fn read(line: &str) -> Result<Option<Command>, Complaint> {
         let mut words = line.split_ascii_whitespace();
         let Some(verb) = words.next() else {
             return Ok(None);
         };
-        if verb.starts_with('#') {
-            return Ok(None);
-        }
         let command = named(verb, &mut words)?;
         match words.next() {
             None => Ok(Some(command)),

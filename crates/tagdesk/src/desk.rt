@@ -62,15 +62,26 @@ impl Desk {
     }
 
     // The answer to a line of the input; none to an empty line or a comment.
-    pub(crate) fn answer(&mut self, heap: Global, number: u64, line: &[u8]) -> Result<Option<String>, AllocError> {
+    pub(crate) fn answer(
+        &mut self,
+        heap: Global,
+        number: u64,
+        line: &[u8],
+    ) -> Result<Option<String>, AllocError> {
         match self.carry_out(heap, line) {
             Ok(answer) => Ok(answer),
-            Err(Failure::Complaint(complaint)) => Ok(Some(complaint_text(heap, number, complaint)?)),
+            Err(Failure::Complaint(complaint)) => Ok(Some(
+                complaint_text(heap, number, complaint)?,
+            )),
             Err(Failure::Memory) => Err(AllocError),
         }
     }
 
+    // A comment may hold any bytes; every other line is text.
     fn carry_out(&mut self, heap: Global, line: &[u8]) -> Result<Option<String>, Failure> {
+        if line.starts_with(b"#") {
+            return Ok(None);
+        }
         let Ok(text) = from_utf8(line) else {
             return Err(Failure::Complaint(Complaint::NotText));
         };
@@ -96,7 +107,12 @@ impl Desk {
         }
     }
 
-    fn open_binary(&mut self, heap: Global, degree: u32, polynomial: u32) -> Result<String, AllocError>
+    fn open_binary(
+        &mut self,
+        heap: Global,
+        degree: u32,
+        polynomial: u32,
+    ) -> Result<String, AllocError>
         ensures answer { λ r. ⌜ made r (λ s. string-bytes s ≡ opened-line (opening degree polynomial)) ⌝ }
         ensures after { λ _. ⌜ current (now (self .exit)) ≡ opened-or (current (now (self .entry))) (opening degree polynomial) ⌝ }
     {

@@ -54,7 +54,10 @@ pub fn field_text<F: Field>(heap: Global, field: &F) -> Result<String, AllocErro
     let ground = field.ground();
     let order = field.order();
     let root = field.root();
-    format!(heap, "field size {size} ground {ground} order {order} root {root}")
+    format!(
+        heap,
+        "field size {size} ground {ground} order {order} root {root}"
+    )
 }
 
 // What is asked of a field.
