@@ -1,17 +1,3 @@
-pub mod Pigeon
-pub mod Powers
-pub mod Searches
-pub mod Walks
-pub mod Cyclic
-pub mod Guarded
-pub mod Integers
-pub mod Bits
-pub mod Linear
-pub mod Polynomials
-pub mod BinaryLaws
-pub mod RootReturns
-pub mod Division
 pub mod Openings
 pub mod Table
 pub mod Kept
-pub mod Computed

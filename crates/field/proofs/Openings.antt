@@ -8,8 +8,8 @@ use lib.Dec.{eqb, leb, ltb}
 use Rattle.std.specs.declared.result.Result.the-variants.{Ok, Err}
 use Rattle.std.proofs.shelf.Tests.{cond-true, cond-false}
 use Rattle.std.proofs.shelf.Ways.{tells}
-use Rattle.field.specs.Search.{root-return}
-use Rattle.field.specs.Binary.{binary, Shape}
+use Rattle.algebra.specs.Search.{root-return}
+use Rattle.algebra.specs.Binary.{binary, Shape}
 use Rattle.field.specs.Opening.{opening}
 use Rattle.field.specs.declared.fault.FieldFault.the-variants.{Degree, Polynomial, RootOrder}
 

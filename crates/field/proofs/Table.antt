@@ -1,5 +1,5 @@
 -- Each supplied polynomial is accepted: one computed test of the table, and what the test tells of an entry.
-use mathlib.Core.Path.{_≡_, refl, sym, _∙_, ap, subst}
+use mathlib.Core.Path.{_≡_, refl, sym, _∙_, subst}
 use mathlib.Core.Bool.{Bool, true, _&&_, _||_}
 use mathlib.Core.List.{List, [], _∷_}
 use Prim.Native.Nat.{ℕ, zero, suc, _+_, _-_, _%_, _^_, _≤_, _<_}
@@ -9,12 +9,12 @@ use lib.ListN.{length, getD}
 use lib.Pow.{pow-mono}
 use Rattle.std.specs.declared.result.Result.the-variants.{Ok}
 use Rattle.std.proofs.shelf.Tests.{cond-false, and-parts, eqb-true, leb-true, ltb-true}
-use Rattle.field.specs.Search.{Returns}
-use Rattle.field.specs.Binary.{bit, sum-over, carryless, remainder, binary}
+use Rattle.algebra.specs.Search.{Returns}
+use Rattle.algebra.specs.Binary.{bit, sum-over, carryless, remainder, binary}
 use Rattle.field.specs.Opening.{opening}
 use Rattle.field.specs.Supplied.{polynomials, standard-opening}
-use Rattle.field.proofs.Walks.{first-return}
-use Rattle.field.proofs.Computed.{comes-back, returns-by}
+use Rattle.algebra.proofs.Walks.{first-return}
+use Rattle.algebra.proofs.Computed.{comes-back, returns-by}
 use Rattle.field.proofs.Openings.{degree-passes, opening-field}
 
 -- P is odd and of degree m, and the powers of the root first return to 1 at 2^m - 1

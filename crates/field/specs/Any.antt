@@ -1,5 +1,5 @@
 -- The meaning of a field whose kind is known at run time.
-use Rattle.field.specs.Arith.{Arith}
+use Rattle.algebra.specs.Arith.{Arith}
 use Rattle.field.specs.declared.any.AnyField.{AnyField}
 use Rattle.field.specs.declared.any.AnyField.the-variants.{Binary, Prime}
 use Rattle.field.specs.contracts.binary.BinaryIsField.the-impl.{ghosts as binary}

@@ -1,13 +1,12 @@
 -- The opening of a binary field, for every degree m and polynomial P.
-use mathlib.Core.Path.{_≡_}
 use mathlib.Core.Bool.{Bool, cond, not, _||_}
 use Prim.Native.Nat.{ℕ, suc, _-_, _%_, _^_}
 use lib.Dec.{eqb, leb, ltb}
 use Rattle.std.specs.declared.result.Result.{Result}
 use Rattle.std.specs.declared.result.Result.the-variants.{Ok, Err}
-use Rattle.field.specs.Arith.{Arith}
-use Rattle.field.specs.Search.{root-return, Returns}
-use Rattle.field.specs.Binary.{binary, Shape, Remainders}
+use Rattle.algebra.specs.Arith.{Arith}
+use Rattle.algebra.specs.Search.{root-return}
+use Rattle.algebra.specs.Binary.{binary}
 use Rattle.field.specs.declared.fault.FieldFault.{FieldFault}
 use Rattle.field.specs.declared.fault.FieldFault.the-variants.{Degree, Polynomial, RootOrder}
 
@@ -22,11 +21,3 @@ opening m P =
     (refuse (eqb (P % 2) 0 || ltb P (2 ^ m) || leb (2 ^ suc m) P) Polynomial
     (refuse (not (eqb (root-return (binary m P)) (2 ^ m - 1))) (RootOrder (root-return (binary m P)))
     (Ok (binary m P))))
-
--- where the last refusal is judged, the root does return to 1, and the search finds the first time
-abbrev pub Root-returns : Type 0
-Root-returns = (m P : ℕ) → Shape m P → P % 2 ≡ 1 → Returns (binary m P .mul 2) (root-return (binary m P))
-
--- the product of codes is a remainder of polynomials
-abbrev pub Product-is-remainder : Type 0
-Product-is-remainder = (m P : ℕ) → Shape m P → Remainders m P

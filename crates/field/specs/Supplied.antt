@@ -6,8 +6,8 @@ use lib.Dec.{ltb}
 use lib.ListN.{getD}
 use Rattle.std.specs.declared.result.Result.{Result}
 use Rattle.std.specs.declared.result.Result.the-variants.{Ok}
-use Rattle.field.specs.Arith.{Arith}
-use Rattle.field.specs.Binary.{binary}
+use Rattle.algebra.specs.Arith.{Arith}
+use Rattle.algebra.specs.Binary.{binary}
 use Rattle.field.specs.Opening.{refuse}
 use Rattle.field.specs.declared.fault.FieldFault.{FieldFault}
 use Rattle.field.specs.declared.fault.FieldFault.the-variants.{Degree}

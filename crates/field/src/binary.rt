@@ -1,8 +1,8 @@
 // The field of 2^degree codes. A code is a polynomial over 0 and 1: bit i is the coefficient of x^i.
 ghost use mathlib.Core.Path.{_≡_};
 ghost use Prim.Native.Nat.{_-_, _%_, _^_, _<_};
-ghost use Rattle.field.specs.Search.{Returns, root-return};
-ghost use Rattle.field.specs.Binary.{binary, Shape};
+ghost use Rattle.algebra.specs.Search.{Returns, root-return};
+ghost use Rattle.algebra.specs.Binary.{binary, Shape};
 use crate::Field;
 
 mod opening;

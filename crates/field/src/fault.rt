@@ -12,15 +12,23 @@ pub enum Layer {
     Station,
 }
 
+impl Layer {
+    fn name(&self) -> &'static str
+        ensures { λ r. ⌜ now r ≡ layer-name (now (self .entry)) ⌝ }
+    {
+        match self {
+            Self::Field => "field",
+            Self::Code => "code",
+            Self::Station => "station",
+        }
+    }
+}
+
 pub impl fmt::Display for Layer as LayerDisplay {
-    ghost shown = { λ l. Some (layer-name l) };
+    ghost shown = { λ layer. Some (layer-name layer) };
 
     fn fmt<W: fmt::Write>(&self, f: &mut fmt::Formatter<W>) -> fmt::Result {
-        match self {
-            Self::Field => f.write_str("field"),
-            Self::Code => f.write_str("code"),
-            Self::Station => f.write_str("station"),
-        }
+        f.write_str(self.name())
     }
 }
 

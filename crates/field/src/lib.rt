@@ -1,6 +1,6 @@
 // Finite fields on codes: the interface with its laws, the binary fields and the prime field.
 ghost use mathlib.Core.Path.{_≡_};
-ghost use Rattle.field.specs.Arith.{Arith, Laws, power};
+ghost use Rattle.algebra.specs.Arith.{Arith, Laws, power};
 
 mod any;
 mod binary;

@@ -1,8 +1,7 @@
 // The field of the whole numbers modulo a prime.
-ghost use mathlib.Core.Path.{_≡_};
 ghost use Prim.Native.Nat.{_-_, _<_, _≤_};
-ghost use Rattle.field.specs.Codes.{modulo};
-ghost use Rattle.field.specs.Search.{Returns};
+ghost use Rattle.algebra.specs.Codes.{modulo};
+ghost use Rattle.algebra.specs.Search.{Returns};
 use crate::Field;
 
 mod opening;

@@ -8,8 +8,8 @@ use Rattle.std.specs.declared.option.Option.{Option}
 use Rattle.std.specs.declared.option.Option.the-variants.{Some, None}
 use Rattle.std.specs.declared.result.Result.{Result}
 use Rattle.std.specs.declared.result.Result.the-variants.{Ok, Err}
-use Rattle.field.specs.Arith.{Arith, power}
-use Rattle.field.specs.Codes.{modulo}
+use Rattle.algebra.specs.Arith.{Arith, power}
+use Rattle.algebra.specs.Codes.{modulo}
 use Rattle.field.specs.Fault.{field-fault, field-words}
 use Rattle.field.specs.Opening.{opening}
 use Rattle.field.specs.declared.fault.FieldFault.{FieldFault}

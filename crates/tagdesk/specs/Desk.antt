@@ -9,7 +9,7 @@ use Rattle.std.specs.declared.option.Option.{Option}
 use Rattle.std.specs.declared.result.Result.{Result}
 use Rattle.std.specs.declared.result.Result.the-variants.{Ok, Err}
 use Rattle.std.specs.declared.string.String.{String}
-use Rattle.field.specs.Arith.{Arith}
+use Rattle.algebra.specs.Arith.{Arith}
 use Rattle.field.specs.Any.{any-meaning}
 use Rattle.tagdesk.specs.declared.complaint.Complaint as complaints
 use Rattle.tagdesk.specs.declared.desk.Desk.{Desk}

@@ -1,5 +1,4 @@
 -- What the console writes: numbers, lists of numbers, refusals and its own complaints.
-use mathlib.Core.Path.{_≡_}
 use mathlib.Core.List.{List, [], _∷_, _++_}
 use Prim.Native.Nat.{ℕ}
 use lib.Chars.{codes}

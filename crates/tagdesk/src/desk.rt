@@ -4,7 +4,7 @@ ghost use Rattle.std.specs.Of.String.{string-bytes};
 ghost use Rattle.std.specs.Vec.{made};
 ghost use Rattle.std.specs.declared.option.Option.the-variants.{Some};
 ghost use Rattle.field.specs.Any.{any-meaning};
-ghost use Rattle.field.specs.Codes.{modulo};
+ghost use Rattle.algebra.specs.Codes.{modulo};
 ghost use Rattle.field.specs.Opening.{opening};
 ghost use Rattle.tagdesk.specs.Answers.{answered, current-after, field-line, opened-line, opened-or};
 ghost use Rattle.tagdesk.specs.Desk.{current, Obeyed};

@@ -14,7 +14,13 @@ mod lines;
 
 // Answers every line of the standard input, or of the file that the one argument names.
 fn main(rt: LibcRuntime) -> Result<(), AnyError> {
-    rt.report(run(&rt))
+    match run(&rt) {
+        Ok(()) => Ok(()),
+        Err(error) => {
+            eprintln!(rt, "tagdesk: {error}")?;
+            Err(error)
+        }
+    }
 }
 
 fn run(rt: &LibcRuntime) -> Result<(), AnyError> {
@@ -25,8 +31,15 @@ fn run(rt: &LibcRuntime) -> Result<(), AnyError> {
         return Err("usage: tagdesk [FILE]".into());
     }
     match file {
-        Some(path) => serve(rt, BufReader::new(File::open(rt, path.as_str())?)),
+        Some(path) => serve_file(rt, path.as_str()),
         None => serve(rt, BufReader::new(rt.stdin())),
+    }
+}
+
+fn serve_file(rt: &LibcRuntime, path: &str) -> Result<(), AnyError> {
+    match File::open(rt, path) {
+        Ok(file) => serve(rt, BufReader::new(file)),
+        Err(error) => Err(format!(rt.alloc(), "cannot open {path}: {error}")?.into()),
     }
 }
 

@@ -6,7 +6,7 @@ use lib.Dec.{eqb}
 use Rattle.std.specs.Iters.{counting}
 use Rattle.std.specs.declared.result.Result.{Result}
 use Rattle.std.specs.declared.result.Result.the-variants.{Ok, Err}
-use Rattle.field.specs.Arith.{Arith, power}
+use Rattle.algebra.specs.Arith.{Arith, power}
 use Rattle.field.specs.Fault.{field-fault}
 use Rattle.field.specs.Opening.{opening}
 use Rattle.field.specs.declared.fault.FieldFault.{FieldFault}

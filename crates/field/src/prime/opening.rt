@@ -1,5 +1,5 @@
 ghost use mathlib.Core.Path.{_≡_};
-ghost use Rattle.field.specs.Codes.{modulo};
+ghost use Rattle.algebra.specs.Codes.{modulo};
 ghost use Rattle.field.specs.contracts.prime.PrimeIsField.the-impl.{ghosts as prime};
 use crate::prime::PrimeField;
 

@@ -1,6 +1,6 @@
 use mathlib.Core.Path.{refl}
-use Rattle.field.specs.Search.{first}
-use Rattle.field.specs.Binary.{bit, sum-over, carryless, remainder}
+use Rattle.algebra.specs.Search.{first}
+use Rattle.algebra.specs.Binary.{bit, sum-over, carryless, remainder}
 use Rattle.worked.proofs.definitions_agree.Needs as need
 
 -- by computing

@@ -1,7 +1,7 @@
-use mathlib.Core.Path.{_≡_, sym, _∙_, ap, ap₂, subst}
+use mathlib.Core.Path.{_≡_, sym, _∙_, ap, subst}
 use Prim.Native.Nat.{ℕ, _/_, _<_}
-use Rattle.field.specs.Arith.{power}
-use Rattle.field.proofs.Powers.{one-code, one-mul, power-code, turn-even, turn-odd}
+use Rattle.algebra.specs.Arith.{power}
+use Rattle.algebra.proofs.Powers.{one-code, one-mul, power-code, turn-even, turn-odd}
 use Rattle.field.proofs.Field.power.Needs as need
 use Rattle.field.proofs.Field.power.Needs.{then-left-eq1, else-left-eq1}
 

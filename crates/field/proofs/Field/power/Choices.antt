@@ -1,6 +1,6 @@
 use mathlib.Core.Path.{_≡_}
 use Prim.Native.Nat.{_<_}
-use Rattle.field.specs.Arith.{power}
+use Rattle.algebra.specs.Arith.{power}
 use Rattle.field.proofs.Field.power.Given as given
 
 abbrev pub Inv-loop-left : given.InvT-loop-left

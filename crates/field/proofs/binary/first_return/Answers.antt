@@ -1,15 +1,15 @@
-use mathlib.Core.Path.{_≡_, sym, _∙_, ap}
+use mathlib.Core.Path.{sym, _∙_, ap}
 use mathlib.Core.Logic.{inl, inr}
 use Prim.Native.Nat.{ℕ, _+_, _-_, _^_, _<_}
 use native.Mathlib.Numerals.{add-one}
 use native.Mathlib.Omega.{arith}
 use Rattle.std.proofs.shelf.Tests.{cases-lt}
-use Rattle.field.specs.Arith.{iterate}
-use Rattle.field.specs.Search.{Returns}
-use Rattle.field.specs.Binary.{binary}
-use Rattle.field.proofs.Polynomials.{one-below}
-use Rattle.field.proofs.Walks.{not-yet, first-return}
-use Rattle.field.proofs.RootReturns.{returns-soon}
+use Rattle.algebra.specs.Arith.{iterate}
+use Rattle.algebra.specs.Search.{Returns}
+use Rattle.algebra.specs.Binary.{binary}
+use Rattle.algebra.proofs.Polynomials.{one-below}
+use Rattle.algebra.proofs.Walks.{not-yet, first-return}
+use Rattle.algebra.proofs.RootReturns.{returns-soon}
 use Rattle.field.proofs.binary.first_return.Needs as need
 
 pub times-x-power-requires : need.times-x-power-requires

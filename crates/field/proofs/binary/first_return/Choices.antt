@@ -1,7 +1,7 @@
 use mathlib.Core.Path.{_≡_}
-use Prim.Native.Nat.{ℕ, _-_, _^_, _<_, _≤_}
-use Rattle.field.specs.Arith.{iterate}
-use Rattle.field.specs.Binary.{binary}
+use Prim.Native.Nat.{ℕ, _-_, _^_, _<_}
+use Rattle.algebra.specs.Arith.{iterate}
+use Rattle.algebra.specs.Binary.{binary}
 use Rattle.field.proofs.binary.first_return.Given as given
 
 abbrev pub Inv-loop-power : given.InvT-loop-power

@@ -1,8 +1,8 @@
 use mathlib.Core.Path.{_≡_, sym, _∙_, subst}
 use Prim.Native.Nat.{ℕ, _^_, _<_}
-use Rattle.field.specs.Binary.{binary, Shape}
-use Rattle.field.proofs.Polynomials.{raise, raise-high, raise-low, raise-below}
-use Rattle.field.proofs.BinaryLaws.{root-raises}
+use Rattle.algebra.specs.Binary.{binary, Shape}
+use Rattle.algebra.proofs.Polynomials.{raise, raise-high, raise-low, raise-below}
+use Rattle.algebra.proofs.BinaryLaws.{root-raises}
 use Rattle.field.proofs.binary.times_x.Needs as need
 
 -- what either way makes is the product by x

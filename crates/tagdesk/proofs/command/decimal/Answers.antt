@@ -1,4 +1,4 @@
-use mathlib.Core.Path.{sym, _∙_}
+use mathlib.Core.Path.{sym}
 use Rattle.tagdesk.proofs.Digit.{number-too-large}
 use Rattle.tagdesk.proofs.command.decimal.Needs as need
 

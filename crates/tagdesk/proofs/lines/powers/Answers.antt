@@ -1,9 +1,9 @@
-use mathlib.Core.Path.{_≡_, sym, _∙_, ap, ap₂}
+use mathlib.Core.Path.{sym, _∙_, ap, ap₂}
 use mathlib.Core.List.{_++_, _∷_, []}
 use native.Mathlib.Numerals.{add-one}
 use native.Mathlib.Omega.{arith}
 use Rattle.std.proofs.shelf.Counted.{map-counting-more}
-use Rattle.field.specs.Arith.{power}
+use Rattle.algebra.specs.Arith.{power}
 use Rattle.tagdesk.proofs.lines.powers.Needs as need
 
 pub loop-i-again : need.loop-i-again

@@ -2,7 +2,7 @@ use mathlib.Core.Path.{_≡_}
 use mathlib.Core.List.{map}
 use Rattle.std.specs.Iters.{counting}
 use Rattle.std.specs.Of.Vec.{vec-items}
-use Rattle.field.specs.Arith.{power}
+use Rattle.algebra.specs.Arith.{power}
 use Rattle.tagdesk.proofs.lines.powers.Given as given
 
 abbrev pub Inv-loop-i : given.InvT-loop-i

@@ -3,13 +3,13 @@ use Prim.Native.Nat.{ℕ, _-_, _*_, _%_, _^_, _≤_}
 use native.Mathlib.Omega.{arith}
 use Rattle.std.specs.declared.result.Result.the-variants.{Err}
 use Rattle.std.proofs.shelf.Bits.{one-shl}
-use Rattle.field.specs.Search.{Returns}
-use Rattle.field.specs.Binary.{binary}
-use Rattle.field.specs.Opening.{Root-returns, Product-is-remainder}
+use Rattle.algebra.specs.Search.{Returns}
+use Rattle.algebra.specs.Binary.{binary}
+use Rattle.algebra.specs.Binary.{Root-returns, Product-is-remainder}
 use Rattle.field.specs.declared.fault.FieldFault.the-variants.{RootOrder}
 use Rattle.field.proofs.Openings.{opening-degree, opening-polynomial, opening-root, opening-field}
-use Rattle.field.proofs.RootReturns.{root-returns}
-use Rattle.field.proofs.Division.{product-is-remainder}
+use Rattle.algebra.proofs.RootReturns.{root-returns}
+use Rattle.algebra.proofs.Division.{product-is-remainder}
 use Rattle.field.proofs.binary.BinaryField.open.Needs as need
 
 -- every way out has the same laws

@@ -1,8 +1,8 @@
 use mathlib.Core.Path.{sym, _∙_}
 use native.Mathlib.Omega.{arith}
-use Rattle.field.specs.Binary.{binary}
-use Rattle.field.proofs.BinaryLaws.{four-codes}
-use Rattle.field.proofs.Cyclic.{inverse-by-power}
+use Rattle.algebra.specs.Binary.{binary}
+use Rattle.algebra.proofs.BinaryLaws.{four-codes}
+use Rattle.algebra.proofs.Cyclic.{inverse-by-power}
 use Rattle.field.proofs.Kept.{binary-kept}
 use Rattle.field.proofs.binary.BinaryIsField.inv.Needs as need
 

@@ -1,8 +1,8 @@
-use mathlib.Core.Path.{_≡_, refl, sym, _∙_}
+use mathlib.Core.Path.{refl, sym, _∙_}
 use Prim.Native.Nat.{_^_, _<_}
 use native.Mathlib.Omega.{arith}
-use Rattle.field.proofs.Polynomials.{raised-more, partial-none, partial-term, partial-gap, partial-all}
-use Rattle.field.proofs.BinaryLaws.{root-raises, mul-is}
+use Rattle.algebra.proofs.Polynomials.{raised-more, partial-none, partial-term, partial-gap, partial-all}
+use Rattle.algebra.proofs.BinaryLaws.{root-raises, mul-is}
 use Rattle.field.proofs.binary.BinaryIsField.mul.Needs as need
 use Rattle.field.proofs.binary.BinaryIsField.mul.Needs.{then-b-i-eq1, else-b-i-eq1}
 

@@ -1,7 +1,7 @@
 use mathlib.Core.Path.{_≡_}
 use Prim.Native.Nat.{_^_, _<_}
-use Rattle.field.specs.Arith.{iterate}
-use Rattle.field.proofs.Polynomials.{raise, partial}
+use Rattle.algebra.specs.Arith.{iterate}
+use Rattle.algebra.proofs.Polynomials.{raise, partial}
 use Rattle.field.proofs.binary.BinaryIsField.mul.Given as given
 
 abbrev pub Inv-loop-i : given.InvT-loop-i

@@ -2,13 +2,13 @@ use mathlib.Core.Path.{_≡_, refl, sym, _∙_, ap}
 use mathlib.Core.Bool.{Bool, true, false}
 use mathlib.Core.Logic.{_⊎_, inl, inr}
 use Prim.Native.Nat.{ℕ, suc, _+_, _*_, _/_, _%_, _^_, _≤_, _<_}
-use native.Mathlib.Nat.{one-mul, pow-suc, div-eq-of-lt-le}
+use native.Mathlib.Nat.{pow-suc, div-eq-of-lt-le}
 use native.Mathlib.Omega.{arith}
 use lib.Dec.{eqb}
 use Rattle.std.specs.Orderings.{When}
 use Rattle.std.proofs.shelf.Bits.{pow-pos, shr-split, mod-below}
 use Rattle.std.proofs.shelf.Tests.{cases-lt, eqb-true, eqb-false}
-use Rattle.field.specs.Binary.{Shape}
+use Rattle.algebra.specs.Binary.{Shape}
 use Rattle.field.proofs.binary.opening.has_degree.Needs as need
 
 -- a quotient of 1 is the degree

@@ -1,5 +1,5 @@
 use lib.Dec.{lit<, lit≤}
-use Rattle.field.proofs.Computed.{returns-929}
+use Rattle.algebra.proofs.Computed.{returns-929}
 use Rattle.field.proofs.prime.PrimeField.open.Needs as need
 
 pub ghost-result : need.ghost-result

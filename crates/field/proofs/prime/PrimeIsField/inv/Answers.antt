@@ -1,7 +1,7 @@
 use mathlib.Core.Path.{sym, _∙_}
 use native.Mathlib.Omega.{arith}
-use Rattle.field.specs.Codes.{modulo}
-use Rattle.field.proofs.Cyclic.{inverse-by-power}
+use Rattle.algebra.specs.Codes.{modulo}
+use Rattle.algebra.proofs.Cyclic.{inverse-by-power}
 use Rattle.field.proofs.Kept.{prime-kept}
 use Rattle.field.proofs.prime.PrimeIsField.inv.Needs as need
 

@@ -2,7 +2,7 @@ use mathlib.Core.Path.{_≡_, _∙_, ap, subst}
 use Rattle.std.specs.Of.String.{string-bytes}
 use Rattle.std.specs.Vec.{made}
 use Rattle.std.specs.declared.option.Option.the-variants.{Some}
-use Rattle.field.specs.Arith.{Arith}
+use Rattle.algebra.specs.Arith.{Arith}
 use Rattle.tagdesk.specs.Answers.{field-line}
 use Rattle.tagdesk.proofs.desk.Desk.open_prime.Needs as need
 

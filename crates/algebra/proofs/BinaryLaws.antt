@@ -1,15 +1,15 @@
 -- The binary field by P, of degree m, is a ring, and a field where the powers of x first return to 1 at 2^m - 1.
-use mathlib.Core.Path.{_≡_, refl, sym, _∙_, ap}
-use Prim.Native.Nat.{ℕ, suc, _-_, _^_, _≤_, _<_}
+use mathlib.Core.Path.{_≡_, refl, _∙_}
+use Prim.Native.Nat.{ℕ, _-_, _^_, _≤_, _<_}
 use native.Mathlib.Omega.{arith}
 use lib.Bits.{bitXor, xor-lt, xor-comm, xor-assoc, xor-zero-r, xor-self}
 use lib.Pow.{pow-mono}
-use Rattle.field.specs.Arith.{Arith, Ring, Laws}
-use Rattle.field.specs.Search.{Returns}
-use Rattle.field.specs.Binary.{binary, Shape}
-use Rattle.field.proofs.Guarded.{guarded-in, ring-on-codes}
-use Rattle.field.proofs.Cyclic.{field-laws}
-use Rattle.field.proofs.Polynomials.{raise, reduced, reduced-below, reduced-comm, reduced-one, reduced-assoc, reduced-right, power-reduced}
+use Rattle.algebra.specs.Arith.{Ring, Laws}
+use Rattle.algebra.specs.Search.{Returns}
+use Rattle.algebra.specs.Binary.{binary, Shape}
+use Rattle.algebra.proofs.Guarded.{guarded-in, ring-on-codes}
+use Rattle.algebra.proofs.Cyclic.{field-laws}
+use Rattle.algebra.proofs.Polynomials.{raise, reduced, reduced-below, reduced-comm, reduced-one, reduced-assoc, reduced-right, power-reduced}
 
 module _ (m P : ℕ) (shape : Shape m P) where
   pub four-codes : 4 ≤ 2 ^ m

@@ -1,13 +1,13 @@
 -- The whole numbers modulo p are a ring, and a field where the powers of a root first return to 1 at p - 1.
-use mathlib.Core.Path.{_≡_, refl, sym, _∙_, ap, ap₂}
+use mathlib.Core.Path.{_≡_, refl, sym, _∙_, ap}
 use Prim.Native.Nat.{ℕ, suc, _+_, _-_, _*_, _/_, _%_, _≤_, _<_}
 use native.Mathlib.Omega.{arith}
 use native.Mathlib.Nat as nat
-use Rattle.field.specs.Arith.{Arith, Ring, Laws}
-use Rattle.field.specs.Search.{Returns}
-use Rattle.field.specs.Codes.{modulo}
-use Rattle.field.proofs.Guarded.{OnNumbers, guarded-in, ring-on-codes}
-use Rattle.field.proofs.Cyclic.{field-laws}
+use Rattle.algebra.specs.Arith.{Ring, Laws}
+use Rattle.algebra.specs.Search.{Returns}
+use Rattle.algebra.specs.Codes.{modulo}
+use Rattle.algebra.proofs.Guarded.{guarded-in, ring-on-codes}
+use Rattle.algebra.proofs.Cyclic.{field-laws}
 
 -- a product, reduced in one factor
 mul-mod : (a b m : ℕ) → (a * (b % m)) % m ≡ (a * b) % m

@@ -2,8 +2,8 @@
 use mathlib.Core.Bool.{cond}
 use Prim.Native.Nat.{ℕ, _+_, _-_, _*_, _%_}
 use lib.Dec.{eqb, ltb}
-use Rattle.field.specs.Arith.{Arith}
-use Rattle.field.specs.Search.{first}
+use Rattle.algebra.specs.Arith.{Arith}
+use Rattle.algebra.specs.Search.{first}
 
 -- x where a is below q, and else 0
 abbrev pub within : ℕ → ℕ → ℕ → ℕ

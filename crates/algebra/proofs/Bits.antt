@@ -1,12 +1,12 @@
 -- Exclusive or: sums of four, bits, shifts.
-use mathlib.Core.Path.{_≡_, refl, sym, ap, ap₂, _∙_, subst}
-use Prim.Native.Nat.{ℕ, zero, suc, _+_, _*_, _/_, _%_, _^_, _<_}
+use mathlib.Core.Path.{_≡_, sym, ap, ap₂, _∙_}
+use Prim.Native.Nat.{ℕ, zero, suc, _*_, _/_, _%_, _^_, _<_}
 use native.Mathlib.Nat.{zero-mul, one-mul, mul-comm, mul-div-mul-left, div-lt-iff-lt-mul, pow-succ', add-zero, div-eq-of-lt, mod-eq-of-lt}
 use native.Mathlib.Omega.{arith}
 use lib.Bits.{bitXor, xor-comm, xor-assoc, xor-self, xor-zero-r, xor-zero-l, xor-shr, xor-mod, xor-block}
 use lib.Dec.{lit<}
 use Rattle.std.proofs.shelf.Bits.{pow-pos}
-use Rattle.field.specs.Binary.{bit}
+use Rattle.algebra.specs.Binary.{bit}
 
 -- a sum of four in another order
 pub xor-four : (a b c d : ℕ) → bitXor (bitXor a b) (bitXor c d) ≡ bitXor (bitXor a c) (bitXor b d)

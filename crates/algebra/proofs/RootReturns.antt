@@ -1,22 +1,22 @@
 -- An odd P of degree m: the product by x is one to one, so the powers of x return to 1, at 2^m - 1 or before.
 use mathlib.Core.Path.{_≡_, sym, _∙_, ap}
 use mathlib.Core.Logic.{inl, inr}
-use Prim.Native.Nat.{ℕ, zero, suc, pred, _+_, _-_, _*_, _%_, _^_, _≤_, _<_}
+use Prim.Native.Nat.{ℕ, zero, suc, pred, _+_, _-_, _*_, _%_, _^_, _<_}
 use native.Mathlib.Omega.{arith}
 use native.Mathlib.Nat.{zero-mul, one-mul}
 use lib.Bits.{bitXor, xor-self}
 use lib.Dec.{eqb}
 use lib.Pow.{pow-pos}
 use Rattle.std.proofs.shelf.Tests.{cases-order, eqb-true, eq-eqb}
-use Rattle.field.specs.Arith.{iterate}
-use Rattle.field.specs.Binary.{bit, binary, Shape}
-use Rattle.field.specs.Opening.{Root-returns}
-use Rattle.field.proofs.Bits.{xor-equal, bit-below}
-use Rattle.field.proofs.Pigeon.{no-room}
-use Rattle.field.proofs.Powers.{power-code}
-use Rattle.field.proofs.Searches.{first-finds}
-use Rattle.field.proofs.Polynomials.{raise, raise-linear}
-use Rattle.field.proofs.BinaryLaws.{binary-ring, root-raises}
+use Rattle.algebra.specs.Arith.{iterate}
+use Rattle.algebra.specs.Binary.{bit, binary, Shape}
+use Rattle.algebra.specs.Binary.{Root-returns}
+use Rattle.algebra.proofs.Bits.{xor-equal, bit-below}
+use Rattle.algebra.proofs.Pigeon.{no-room}
+use Rattle.algebra.proofs.Powers.{power-code}
+use Rattle.algebra.proofs.Searches.{first-finds}
+use Rattle.algebra.proofs.Polynomials.{raise, raise-linear}
+use Rattle.algebra.proofs.BinaryLaws.{binary-ring, root-raises}
 
 module _ (m P : ℕ) (shape : Shape m P) (odd : P % 2 ≡ 1) where
   -- no code but 0 is taken to 0: twice a code is even

@@ -5,8 +5,8 @@ use native.Mathlib.Nat.{zero-mul, one-mul, mod-eq-of-lt, mod-one}
 use native.Mathlib.Omega.{arith}
 use lib.Bits.{bitXor, xor-self, xor-lt, xor-shifted, xor-comm}
 use Rattle.std.proofs.shelf.Bits.{pow-pos, mod-pow-add, mod-below}
-use Rattle.field.specs.Binary.{bit, sum-over}
-use Rattle.field.proofs.Bits.{xor-four, bit-below, bit-xor, digit-xor, digits-xor, digit-below}
+use Rattle.algebra.specs.Binary.{bit, sum-over}
+use Rattle.algebra.proofs.Bits.{xor-four, bit-below, bit-xor, digit-xor, digits-xor, digit-below}
 
 -- f keeps sums
 abbrev pub Linear : (ℕ → ℕ) → Type 0

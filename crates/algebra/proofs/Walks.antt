@@ -6,10 +6,10 @@ use Prim.Native.Nat.{ℕ, zero, suc, pred, _+_, _-_, _≤_, _<_}
 use native.Mathlib.Omega.{arith}
 use lib.Dec.{eqb}
 use Rattle.std.proofs.shelf.Tests.{cases-eq, cases-order, eqb-true, eq-eqb}
-use Rattle.field.specs.Arith.{iterate}
-use Rattle.field.specs.Search.{first, Returns}
-use Rattle.field.proofs.Pigeon.{onto}
-use Rattle.field.proofs.Searches.{first-is}
+use Rattle.algebra.specs.Arith.{iterate}
+use Rattle.algebra.specs.Search.{first, Returns}
+use Rattle.algebra.proofs.Pigeon.{onto}
+use Rattle.algebra.proofs.Searches.{first-is}
 
 module _ (step : ℕ → ℕ) where
   iterate-add : (m n x : ℕ) → iterate step (m + n) x ≡ iterate step m (iterate step n x)

@@ -5,12 +5,12 @@ use native.Mathlib.Nat.{zero-mul, one-mul, mul-assoc, pow-succ', add-zero, add-s
 use native.Mathlib.Omega.{arith}
 use lib.Bits.{bitXor, shifted-even, xor-self, xor-zero-r, xor-shr, xor-lt, xor-comm, xor-assoc}
 use lib.Pow.{pow-pos, pow-mono, pow-add, shl-shr, shl-lt}
-use Rattle.field.specs.Binary.{bit, sum-over, carryless, remainder, binary, Shape}
-use Rattle.field.specs.Opening.{Product-is-remainder}
-use Rattle.field.proofs.Bits.{xor-back, bit-below, bit-above, below-from-div, div-top, digit-below}
-use Rattle.field.proofs.Linear.{Linear, linear-digit, over-linear, over-below}
-use Rattle.field.proofs.Polynomials.{digit-top, reduced}
-use Rattle.field.proofs.BinaryLaws.{mul-is}
+use Rattle.algebra.specs.Binary.{bit, sum-over, carryless, remainder, Shape}
+use Rattle.algebra.specs.Binary.{Product-is-remainder}
+use Rattle.algebra.proofs.Bits.{xor-back, bit-below, bit-above, below-from-div, div-top, digit-below}
+use Rattle.algebra.proofs.Linear.{Linear, linear-digit, over-linear, over-below}
+use Rattle.algebra.proofs.Polynomials.{digit-top}
+use Rattle.algebra.proofs.BinaryLaws.{mul-is}
 
 -- a shifted number has no bits below
 bit-low : (a n i : ℕ) → i < n → bit (a * 2 ^ n) i ≡ 0

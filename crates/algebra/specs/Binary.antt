@@ -3,8 +3,9 @@
 use mathlib.Core.Path.{_≡_}
 use Prim.Native.Nat.{ℕ, zero, suc, _+_, _-_, _*_, _/_, _%_, _^_, _≤_, _<_}
 use lib.Bits.{bitXor}
-use Rattle.field.specs.Arith.{Arith}
-use Rattle.field.specs.Codes.{on-codes}
+use Rattle.algebra.specs.Arith.{Arith}
+use Rattle.algebra.specs.Search.{Returns, root-return}
+use Rattle.algebra.specs.Codes.{on-codes}
 
 -- the coefficient of x^i in a
 unfoldable pub bit : ℕ → ℕ → ℕ
@@ -32,9 +33,13 @@ binary m P = on-codes (2 ^ m) 2 (2 ^ m - 1) 2 bitXor (λ a. a) (λ a b. remainde
 abbrev pub Shape : ℕ → ℕ → Type 0
 Shape m P = (2 ≤ m) × (m ≤ 10) × (2 ^ m ≤ P) × (P < 2 ^ suc m)
 
--- The product of two codes is the remainder of their product as polynomials: it is below x^m,
--- and with a multiple of P it makes up that product.
-abbrev pub Remainders : ℕ → ℕ → Type 0
-Remainders m P =
-    (a b : ℕ) → a < 2 ^ m → b < 2 ^ m
+-- the product of two codes is the remainder of their product as polynomials: it is below x^m, and with a multiple of P it
+-- makes up that product
+abbrev pub Product-is-remainder : Type 0
+Product-is-remainder =
+    (m P : ℕ) → Shape m P → (a b : ℕ) → a < 2 ^ m → b < 2 ^ m
     → (binary m P .mul a b < 2 ^ m) × ((q : ℕ) × (q < 2 ^ m) × (carryless a b m ≡ bitXor (carryless P q m) (binary m P .mul a b)))
+
+-- the powers of the root return to 1 where P is odd, and the search for the first return finds it
+abbrev pub Root-returns : Type 0
+Root-returns = (m P : ℕ) → Shape m P → P % 2 ≡ 1 → Returns (binary m P .mul 2) (root-return (binary m P))

@@ -1,16 +1,16 @@
 -- Products of polynomials reduced by P, of degree m, make a commutative ring on the numbers below 2^m, whatever P is.
 -- Reducing is linear, and x^i·a reduced is i products by x; so each law is shown at the powers of x.
-use mathlib.Core.Path.{_≡_, refl, sym, ap, ap₂, _∙_, subst}
+use mathlib.Core.Path.{_≡_, refl, sym, ap, ap₂, _∙_}
 use Prim.Native.Nat.{ℕ, zero, suc, _+_, _-_, _*_, _/_, _%_, _^_, _<_, _≤_}
 use native.Mathlib.Nat.{mul-left-comm, zero-div, zero-mul, one-mul, mul-one, pow-succ', pow-suc, add-zero, zero-add, add-suc, mod-eq-of-lt, div-eq-of-lt-le, div-lt-iff-lt-mul}
 use native.Mathlib.Numerals.{add-one}
 use native.Mathlib.Omega.{arith}
 use lib.Bits.{bitXor, xor-self, xor-zero-r, xor-shr}
 use lib.Pow.{pow-pos, pow-lt, pow-mono, shl-lt}
-use Rattle.field.specs.Arith.{iterate}
-use Rattle.field.specs.Binary.{bit, sum-over, carryless, remainder, Shape}
-use Rattle.field.proofs.Bits.{xor-four, bit-below, bit-xor, digits-xor, shl-xor, twice-xor, bit-above, bit-twice, below-from-div, div-top}
-use Rattle.field.proofs.Linear.{Linear, over-map, over-same, over-sum, over-linear, over-below, over-terms, linear-terms}
+use Rattle.algebra.specs.Arith.{iterate}
+use Rattle.algebra.specs.Binary.{bit, sum-over, carryless, remainder, Shape}
+use Rattle.algebra.proofs.Bits.{xor-four, bit-below, bit-xor, digits-xor, shl-xor, twice-xor, bit-above, bit-twice, below-from-div, div-top}
+use Rattle.algebra.proofs.Linear.{Linear, over-map, over-same, over-sum, over-linear, over-below, over-terms, linear-terms}
 
 -- the product of a and x: twice a, less P where there is a term x^m
 unfoldable pub raise : ℕ → ℕ → ℕ → ℕ

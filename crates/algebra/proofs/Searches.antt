@@ -5,7 +5,7 @@ use mathlib.Core.Logic.{_⊎_, inl, inr}
 use Prim.Native.Nat.{ℕ, zero, suc, _+_, _≤_, _<_}
 use native.Mathlib.Omega.{arith}
 use Rattle.std.proofs.shelf.Tests.{cases-eq, cases-bool, both-ways}
-use Rattle.field.specs.Search.{first}
+use Rattle.algebra.specs.Search.{first}
 
 fails : (t : Bool) → (t ≡ true → ⊥) → t ≡ false
 fails true h = absurd (h refl)

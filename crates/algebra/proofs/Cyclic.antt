@@ -1,18 +1,18 @@
 -- A ring of codes whose root's powers first return to 1 at size - 1 is a field: the root's powers are all codes but 0,
 -- so a ^ (size - 2) is the inverse of a.
-use mathlib.Core.Path.{_≡_, refl, sym, _∙_, ap, subst}
+use mathlib.Core.Path.{_≡_, refl, sym, _∙_, ap}
 use mathlib.Core.Bool.{true}
 use mathlib.Core.Logic.{inl, inr}
 use Prim.Native.Nat.{ℕ, zero, suc, _-_, _≤_, _<_}
 use native.Mathlib.Omega.{arith}
 use lib.Dec.{eqb}
 use Rattle.std.proofs.shelf.Tests.{cases-eq, eqb-true, eq-eqb}
-use Rattle.field.specs.Arith.{Arith, Ring, Laws, power}
-use Rattle.field.specs.Codes.{inverse}
-use Rattle.field.specs.Search.{Returns}
-use Rattle.field.proofs.Searches.{first-is, first-none, first-below}
-use Rattle.field.proofs.Walks.{different, reaches}
-use Rattle.field.proofs.Powers.{one-code, zero-code, power-code, mul-comm, mul-zero, zero-mul, mul-assoc, one-mul, power-mul, power-of-one}
+use Rattle.algebra.specs.Arith.{Arith, Ring, Laws, power}
+use Rattle.algebra.specs.Codes.{inverse}
+use Rattle.algebra.specs.Search.{Returns}
+use Rattle.algebra.proofs.Searches.{first-is, first-none, first-below}
+use Rattle.algebra.proofs.Walks.{different, reaches}
+use Rattle.algebra.proofs.Powers.{one-code, zero-code, power-code, mul-comm, mul-zero, zero-mul, mul-assoc, one-mul, power-mul, power-of-one}
 
 module _ (A : Arith) (R : Ring A) where
   -- what makes 1 with a is its inverse, since there is only one such code

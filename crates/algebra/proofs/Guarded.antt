@@ -5,8 +5,8 @@ use Prim.Native.Nat.{ℕ, _≤_, _<_}
 use native.Mathlib.Omega.{arith}
 use lib.Dec.{ltb}
 use Rattle.std.proofs.shelf.Tests.{cases-lt, lt-ltb, le-ltb, cond-true, cond-false, cond-both}
-use Rattle.field.specs.Arith.{Arith, Ring}
-use Rattle.field.specs.Codes.{within, on-codes}
+use Rattle.algebra.specs.Arith.{Ring}
+use Rattle.algebra.specs.Codes.{within, on-codes}
 
 -- the laws of the operations on numbers below q
 pub record OnNumbers (q : ℕ) (sum : ℕ → ℕ → ℕ) (negative : ℕ → ℕ) (product : ℕ → ℕ → ℕ) : Type 0 where

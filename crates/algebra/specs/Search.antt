@@ -3,7 +3,7 @@ use mathlib.Core.Path.{_≡_}
 use mathlib.Core.Bool.{Bool, true, false}
 use Prim.Native.Nat.{ℕ, zero, suc, _<_}
 use lib.Dec.{eqb}
-use Rattle.field.specs.Arith.{Arith, iterate, power}
+use Rattle.algebra.specs.Arith.{Arith, iterate, power}
 
 -- the first of the n numbers from i on that passes, and 0 where none does
 unfoldable pub first : (ℕ → Bool) → ℕ → ℕ → ℕ

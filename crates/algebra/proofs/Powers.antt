@@ -1,10 +1,10 @@
 -- Powers in a ring of codes: of a sum of exponents, of a product, by squares.
-use mathlib.Core.Path.{_≡_, refl, sym, _∙_, ap, ap₂}
+use mathlib.Core.Path.{_≡_, refl, sym, _∙_, ap}
 use mathlib.Core.Logic.{_⊎_, inl, inr}
 use Prim.Native.Nat.{ℕ, zero, suc, _+_, _/_, _%_, _≤_, _<_}
 use native.Mathlib.Omega.{arith}
 use Rattle.std.proofs.shelf.Tests.{cases-lt}
-use Rattle.field.specs.Arith.{Arith, Ring, power}
+use Rattle.algebra.specs.Arith.{Arith, Ring, power}
 
 module _ (A : Arith) (R : Ring A) where
   pub one-code : 1 < A .size

@@ -1,13 +1,13 @@
 -- First returns that are computed, one step after the other.
 use mathlib.Core.Path.{_≡_, sym, _∙_, ap}
-use mathlib.Core.Bool.{Bool, true, false, not, _&&_}
-use Prim.Native.Nat.{ℕ, zero, suc, pred, _+_, _<_}
+use mathlib.Core.Bool.{Bool, true, not, _&&_}
+use Prim.Native.Nat.{ℕ, zero, suc, _<_}
 use native.Mathlib.Omega.{arith}
 use lib.Dec.{eqb}
 use Rattle.std.proofs.shelf.Tests.{and-parts, not-true, eqb-true, eqb-false}
-use Rattle.field.specs.Arith.{iterate}
-use Rattle.field.specs.Search.{Returns}
-use Rattle.field.specs.Codes.{modulo}
+use Rattle.algebra.specs.Arith.{iterate}
+use Rattle.algebra.specs.Search.{Returns}
+use Rattle.algebra.specs.Codes.{modulo}
 
 -- from x on, `step` makes 1 after k steps, and not before
 abbrev pub comes-back : (ℕ → ℕ) → ℕ → ℕ → Bool

@@ -1,0 +1,4 @@
+pub mod Arith
+pub mod Search
+pub mod Codes
+pub mod Binary
