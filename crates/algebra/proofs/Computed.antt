@@ -1,5 +1,5 @@
 -- First returns that are computed, one step after the other.
-use mathlib.Core.Path.{_≡_, sym, _∙_, ap}
+use mathlib.Core.Path.{_≡_, refl, sym, _∙_, ap}
 use mathlib.Core.Bool.{Bool, true, not, _&&_}
 use Prim.Native.Nat.{ℕ, zero, suc, _<_}
 use native.Mathlib.Omega.{arith}
@@ -17,7 +17,7 @@ comes-back step (suc k) x = not (eqb x 1) && comes-back step k (step x)
 module _ (step : ℕ → ℕ) where
   -- the step at the beginning of a walk, or at its end
   iterate-step : (n x : ℕ) → iterate step n (step x) ≡ step (iterate step n x)
-  iterate-step zero x = λ _. step x
+  iterate-step zero x = refl
   iterate-step (suc n) x = ap step (iterate-step n x)
 
   not-before : (k x : ℕ) → comes-back step k x ≡ true → (j : ℕ) → j < k → iterate step j x ≡ 1 → ⊥
@@ -37,4 +37,4 @@ module _ (step : ℕ → ℕ) where
       before (suc k) pos h e = not-before n (step 1) t k (omega arith) (iterate-step k 1 ∙ e)
 
 pub returns-929 : Returns (modulo 929 3 .mul 3) 928
-returns-929 = returns-by (modulo 929 3 .mul 3) 927 (λ _. true)
+returns-929 = returns-by (modulo 929 3 .mul 3) 927 refl

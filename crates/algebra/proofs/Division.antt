@@ -5,8 +5,7 @@ use native.Mathlib.Nat.{zero-mul, one-mul, mul-assoc, pow-succ', add-zero, add-s
 use native.Mathlib.Omega.{arith}
 use lib.Bits.{bitXor, shifted-even, xor-self, xor-zero-r, xor-shr, xor-lt, xor-comm, xor-assoc}
 use lib.Pow.{pow-pos, pow-mono, pow-add, shl-shr, shl-lt}
-use Rattle.algebra.specs.Binary.{bit, sum-over, carryless, remainder, Shape}
-use Rattle.algebra.specs.Binary.{Product-is-remainder}
+use Rattle.algebra.specs.Binary.{bit, sum-over, carryless, remainder, Shape, Product-is-remainder}
 use Rattle.algebra.proofs.Bits.{xor-back, bit-below, bit-above, below-from-div, div-top, digit-below}
 use Rattle.algebra.proofs.Linear.{Linear, linear-digit, over-linear, over-below}
 use Rattle.algebra.proofs.Polynomials.{digit-top}

@@ -9,8 +9,7 @@ use lib.Dec.{eqb}
 use lib.Pow.{pow-pos}
 use Rattle.std.proofs.shelf.Tests.{cases-order, eqb-true, eq-eqb}
 use Rattle.algebra.specs.Arith.{iterate}
-use Rattle.algebra.specs.Binary.{bit, binary, Shape}
-use Rattle.algebra.specs.Binary.{Root-returns}
+use Rattle.algebra.specs.Binary.{bit, binary, Shape, Root-returns}
 use Rattle.algebra.proofs.Bits.{xor-equal, bit-below}
 use Rattle.algebra.proofs.Pigeon.{no-room}
 use Rattle.algebra.proofs.Powers.{power-code}
@@ -57,7 +56,6 @@ module _ (m P : ℕ) (shape : Shape m P) (odd : P % 2 ≡ 1) where
   -- not all powers from 1 to 2^m - 1 are other than 1
   pub returns-soon : ((k : ℕ) → 0 < k → k < 2 ^ m → walk k ≡ 1 → ⊥) → ⊥
   returns-soon never =
-      let code = walk-code 0 in
       no-room (2 ^ m - 1) (λ k. pred (walk k)) (λ k _. let c = walk-code k in let z = walk-nonzero k in omega arith) alone
     where
       later : (i j : ℕ) → i < j → j < 2 ^ m → walk i ≡ walk j → ⊥

@@ -10,7 +10,7 @@ use Rattle.std.proofs.shelf.Tests.{cond-true, cond-false}
 use Rattle.std.proofs.shelf.Ways.{tells}
 use Rattle.algebra.specs.Search.{root-return}
 use Rattle.algebra.specs.Binary.{binary, Shape}
-use Rattle.field.specs.Opening.{opening}
+use Rattle.field.specs.Opening.{refuse, opening}
 use Rattle.field.specs.declared.fault.FieldFault.the-variants.{Degree, Polynomial, RootOrder}
 
 module _ (m P : ℕ) where
@@ -30,14 +30,18 @@ module _ (m P : ℕ) where
     polynomial-passes : (eqb (P % 2) 0 || ltb P (2 ^ m) || leb (2 ^ suc m) P) ≡ false
     polynomial-passes = grind (arith, tells)
 
+    -- only the root is left to judge
+    root-judged : opening m P ≡ refuse (not (eqb (root-return (binary m P)) (2 ^ m - 1))) (RootOrder (root-return (binary m P))) (Ok (binary m P))
+    root-judged =
+        cond-false (ltb m 2 || ltb 10 m) _ _ (degree-passes (shape .0) (shape .1))
+        ∙ cond-false (eqb (P % 2) 0 || ltb P (2 ^ m) || leb (2 ^ suc m) P) _ _ polynomial-passes
+
     pub opening-root : (root-return (binary m P) ≡ 2 ^ m - 1 → ⊥) → opening m P ≡ Err (RootOrder (root-return (binary m P)))
     opening-root ne =
         let t : not (eqb (root-return (binary m P)) (2 ^ m - 1)) ≡ true = grind (arith, tells) in
-        cond-false (ltb m 2 || ltb 10 m) _ _ (degree-passes (shape .0) (shape .1))
-        ∙ cond-false (eqb (P % 2) 0 || ltb P (2 ^ m) || leb (2 ^ suc m) P) _ _ polynomial-passes ∙ cond-true (not (eqb (root-return (binary m P)) (2 ^ m - 1))) _ _ t
+        root-judged ∙ cond-true (not (eqb (root-return (binary m P)) (2 ^ m - 1))) _ _ t
 
     pub opening-field : root-return (binary m P) ≡ 2 ^ m - 1 → opening m P ≡ Ok (binary m P)
     opening-field e =
         let t : not (eqb (root-return (binary m P)) (2 ^ m - 1)) ≡ false = grind (arith, tells) in
-        cond-false (ltb m 2 || ltb 10 m) _ _ (degree-passes (shape .0) (shape .1))
-        ∙ cond-false (eqb (P % 2) 0 || ltb P (2 ^ m) || leb (2 ^ suc m) P) _ _ polynomial-passes ∙ cond-false (not (eqb (root-return (binary m P)) (2 ^ m - 1))) _ _ t
+        root-judged ∙ cond-false (not (eqb (root-return (binary m P)) (2 ^ m - 1))) _ _ t

@@ -4,8 +4,7 @@ use native.Mathlib.Omega.{arith}
 use Rattle.std.specs.declared.result.Result.the-variants.{Err}
 use Rattle.std.proofs.shelf.Bits.{one-shl}
 use Rattle.algebra.specs.Search.{Returns}
-use Rattle.algebra.specs.Binary.{binary}
-use Rattle.algebra.specs.Binary.{Root-returns, Product-is-remainder}
+use Rattle.algebra.specs.Binary.{binary, Root-returns, Product-is-remainder}
 use Rattle.field.specs.declared.fault.FieldFault.the-variants.{RootOrder}
 use Rattle.field.proofs.Openings.{opening-degree, opening-polynomial, opening-root, opening-field}
 use Rattle.algebra.proofs.RootReturns.{root-returns}
