@@ -337,6 +337,9 @@ NAMES = dict(row.split() for row in TABLE.split("\n") if row)
 # A name stands alone where no letter, digit, prime or dash is beside it.
 NAME = re.compile(r"(?<![\w'-])(" + "|".join(sorted(map(re.escape, NAMES), key=len, reverse=True)) + r")(?![\w'-])")
 
+# `ground` is a tactic's name today, so the field `ground` of a meaning is called `ground_size`; the method `ground` keeps its name.
+GROUND = re.compile(r"(?<=\.)ground(?![\w'(-])|(?<=pub )ground(?= :)|(?<=      )ground(?= = )")
+
 
 def main():
     top = sys.argv[1] if len(sys.argv) > 1 else "."
@@ -349,7 +352,7 @@ def main():
             with open(path, encoding="utf-8") as text:
                 old = text.read()
             # In a .rt file only clauses and ghost items have names with dashes.
-            new = NAME.sub(lambda found: NAMES[found[1]], old)
+            new = GROUND.sub("ground_size", NAME.sub(lambda found: NAMES[found[1]], old))
             if new != old:
                 changed += 1
                 with open(path, "w", encoding="utf-8") as text:

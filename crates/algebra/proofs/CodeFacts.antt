@@ -10,7 +10,7 @@ use Rattle.algebra.specs.BlockCodeLaws.{Member, Facts}
 use Rattle.algebra.specs.declared.Design.{Design}
 use Rattle.algebra.proofs.Pigeon.{no_room}
 use Rattle.algebra.proofs.Members.{place, at_place}
-use Rattle.algebra.proofs.Elements.{Element, element, codes, on_elements, elements_ring, code_pow, code_value, codes-times_factors, code_factors}
+use Rattle.algebra.proofs.Elements.{Element, element, codes, on_elements, elements_ring, code_pow, pow_is_power, code_value, codes-times_factors, code_factors}
 use Rattle.algebra.proofs.WordValues.{length-times_factors, value-times_factors, begins, factors_root}
 use Rattle.algebra.proofs.AbstractRing.{one-mul}
 use Rattle.algebra.proofs.Exponents.{exponents_smallest}
@@ -42,7 +42,7 @@ module _ (A : Arith) (L : Laws A) where
 
   codes_powers : (es : List ℕ) → codes (map (pow (on_elements A L.ring) root_element) es) ≡ map (root_power A) es
   codes_powers [] = refl
-  codes_powers (e ∷ es) = λ i. code_pow A L.ring root_element e i ∷ codes_powers es i
+  codes_powers (e ∷ es) = λ i. (code_pow A L.ring root_element e ∙ pow_is_power A A.root e) i ∷ codes_powers es i
 
   module _ (D : Design) where
     -- the generator's roots, and the generator but for its first coefficient, as elements

@@ -53,8 +53,8 @@ module _ (A : Arith) (R : Ring A) where
           | inr ne ↦ sym (inverse_is a _ (power_code A R a (A.size - 2)) (fermat a ha ne))
         ]
 
-    pub field_laws : A.root < A.size → ((a : ℕ) → A.inv a ≡ inverse A.size A.mul a) → 2 ≤ A.ground → A.ground ≤ A.size
-        → ((a : ℕ) → suc a < A.ground → A.add a 1 ≡ suc a) → ((a : ℕ) → suc a ≡ A.ground → A.add a 1 ≡ 0) → Laws A
+    pub field_laws : A.root < A.size → ((a : ℕ) → A.inv a ≡ inverse A.size A.mul a) → 2 ≤ A.ground_size → A.ground_size ≤ A.size
+        → ((a : ℕ) → suc a < A.ground_size → A.add a 1 ≡ suc a) → ((a : ℕ) → suc a ≡ A.ground_size → A.add a 1 ≡ 0) → Laws A
     field_laws root inv-is ground_low ground_high add-one add_one_last =
         let low = R.size_low in
         record {

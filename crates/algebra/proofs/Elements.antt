@@ -5,7 +5,7 @@ use mathlib.Core.List.{map-append}
 use lib.Dec.{T_prop}
 use lib.ListN.{length-map}
 use Rattle.std.specs.List.{AllByRecursion as All}
-use Rattle.algebra.specs.Arith.{Arith, Ring}
+use Rattle.algebra.specs.Arith.{Arith, Ring, power}
 use Rattle.algebra.specs.Abstract.{Ops, RingLaws}
 use Rattle.algebra.specs.Words.{pow, value, less, remainder, times_factor, times_factors, factors}
 use Rattle.algebra.specs.BlockCode.{ops}
@@ -34,6 +34,11 @@ module _ {A : Arith} where
   pub with_codes : (w : List ℕ) → All (λ c. c < A.size) w → (W : List (Element A)) × (codes W ≡ w)
   with_codes [] h = ([], refl)
   with_codes (c ∷ w) h = let t = with_codes w h.1 in (element c h.0 ∷ t.0, ap (λ l. c ∷ l) t.1)
+
+-- powers of a code, as a word's value takes them and as a field does
+pub pow_is_power : (A : Arith) (x n : ℕ) → pow (ops A) x n ≡ power A.mul x n
+pow_is_power A x zero = refl
+pow_is_power A x (suc n) = ap (A.mul x) (pow_is_power A x n)
 
 module _ (A : Arith) (R : Ring A) where
   abbrev pub on_elements : Ops (Element A)

@@ -12,7 +12,7 @@ use Rattle.algebra.specs.BlockCodeLaws.{EncodingIsCodeword, ChecksTellCodewords}
 use Rattle.algebra.specs.declared.Design.{Design}
 use Rattle.algebra.proofs.Powers.{power_code, power-add}
 use Rattle.algebra.proofs.Members.{member-all, member-map, member-counting, all-counting}
-use Rattle.algebra.proofs.Elements.{Element, codes, with_codes, on_elements, elements_ring, code_pow, code_value, codes_divided}
+use Rattle.algebra.proofs.Elements.{Element, codes, with_codes, on_elements, elements_ring, code_pow, pow_is_power, code_value, codes_divided}
 use Rattle.algebra.proofs.WordValues.{length-remainder, length_raised, value_divided}
 use Rattle.algebra.proofs.GroundSymbols.{symbols_codes, symbols_remainder, symbols_negatives, symbols_zeros}
 use Rattle.algebra.proofs.Exponents.{exponents_smallest}
@@ -79,7 +79,7 @@ module _ (A : Arith) (L : Laws A) where
         let R = L.ring in
         let e = (D.first + j) % A.order in
         let x = pow (on_elements A R) (root_element A L) e in
-        (λ i. value (ops A) (encoded_is M i) ((sym (root_modulo (D.first + j)) ∙ sym (code_pow A R (root_element A L) e)) i))
+        (λ i. value (ops A) (encoded_is M i) ((sym (root_modulo (D.first + j)) ∙ sym (pow_is_power A A.root e) ∙ sym (code_pow A R (root_element A L) e)) i))
         ∙ sym (code_value A R (encoded_elements M) x)
         ∙ ap (λ v. v.code) (value_divided (elements_ring A R) M (generator_tail A L D) x (tail_root A L D e ((exponents_smallest A L D).run_in j l)))
 

@@ -13,25 +13,25 @@ use Rattle.algebra.proofs.AbstractRing.{neg_unique}
 use Rattle.algebra.proofs.Elements.{element, same_element, elements_ring}
 
 module _ (A : Arith) (L : Laws A) where
-  ground_code : (a : ℕ) → a < A.ground → a < A.size
+  ground_code : (a : ℕ) → a < A.ground_size → a < A.size
   ground_code a l = let h = L.ground_high in omega arith
 
-  ground_next : (a : ℕ) → a < A.ground → A.add a 1 < A.ground
+  ground_next : (a : ℕ) → a < A.ground_size → A.add a 1 < A.ground_size
   ground_next a l =
-      elim (cases_lt (suc a) A.ground) [
+      elim (cases_lt (suc a) A.ground_size) [
         | inl h ↦ let e = L.add-one a h in omega arith
         | inr h ↦ let e = L.add_one_last a (omega arith) in omega arith
       ]
 
   -- a + (b + 1) = (a + b) + 1
-  add_next : (a b : ℕ) → a < A.size → suc b < A.ground → A.add a (suc b) ≡ A.add (A.add a b) 1
+  add_next : (a b : ℕ) → a < A.size → suc b < A.ground_size → A.add a (suc b) ≡ A.add (A.add a b) 1
   add_next a b ha hb = ap (A.add a) (sym (L.add-one b hb)) ∙ sym (L.ring.add_assoc a b 1 ha (ground_code b (omega arith)) (one_code A L.ring))
 
-  ground_add : (a b : ℕ) → a < A.ground → b < A.ground → A.add a b < A.ground
+  ground_add : (a b : ℕ) → a < A.ground_size → b < A.ground_size → A.add a b < A.ground_size
   ground_add a zero ha hb = rw (L.ring.add-zero a (ground_code a ha)) ha
   ground_add a (suc b) ha hb = rw (add_next a b (ground_code a ha) hb) (ground_next (A.add a b) (ground_add a b ha (omega arith)))
 
-  ground_mul : (a b : ℕ) → a < A.ground → b < A.ground → A.mul a b < A.ground
+  ground_mul : (a b : ℕ) → a < A.ground_size → b < A.ground_size → A.mul a b < A.ground_size
   ground_mul a zero ha hb = rw (mul-zero A L.ring a) hb
   ground_mul a (suc b) ha hb =
       let R = L.ring in
@@ -41,23 +41,23 @@ module _ (A : Arith) (L : Laws A) where
       rw e (ground_add (A.mul a b) a (ground_mul a b ha (omega arith)) ha)
 
   -- below the number of ground codes the sum is that of numbers
-  plain_add : (a b : ℕ) → a + b < A.ground → A.add a b ≡ a + b
+  plain_add : (a b : ℕ) → a + b < A.ground_size → A.add a b ≡ a + b
   plain_add a zero h = L.ring.add-zero a (ground_code a (omega arith)) ∙ omega arith
   plain_add a (suc b) h =
       add_next a b (ground_code a (omega arith)) (omega arith) ∙ ap (λ x. A.add x 1) (plain_add a b (omega arith)) ∙ L.add-one (a + b) (omega arith) ∙ omega arith
 
   -- −a is (p − 1 − a) + 1
-  ground_neg : (a : ℕ) → a < A.ground → A.neg a < A.ground
+  ground_neg : (a : ℕ) → a < A.ground_size → A.neg a < A.ground_size
   ground_neg a ha =
       let R = L.ring in
-      let b : ℕ = A.ground - 1 - a in
-      let hb : b < A.ground = omega arith in
+      let b : ℕ = A.ground_size - 1 - a in
+      let hb : b < A.ground_size = omega arith in
       let c : ℕ = A.add b 1 in
-      let hc : c < A.ground = ground_next b hb in
+      let hc : c < A.ground_size = ground_next b hb in
       let gone : A.add a c ≡ 0 =
       sym (R.add_assoc a b 1 (ground_code a ha) (ground_code b hb) (one_code A R)) ∙ ap (λ x. A.add x 1) (plain_add a b (omega arith)) ∙ L.add_one_last (a + b) (omega arith) in
       let e : c ≡ A.neg a = ap (λ x. x.code) (neg_unique (elements_ring A R) (element a (ground_code a ha)) (element c (ground_code c hc)) (same_element _ _ gone)) in
-      subst (λ x. x < A.ground) e hc
+      subst (λ x. x < A.ground_size) e hc
 
   pub symbols_codes : (s : Alphabet) → symbols A s ≤ A.size
   symbols_codes Whole = omega arith

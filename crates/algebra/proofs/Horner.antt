@@ -5,7 +5,7 @@ use Rattle.algebra.specs.Arith.{Arith, Laws}
 use Rattle.algebra.specs.Words.{pow, value}
 use Rattle.algebra.specs.BlockCode.{ops}
 use Rattle.algebra.proofs.Powers.{zero_code, power_code}
-use Rattle.algebra.proofs.Elements.{element, elements_ring}
+use Rattle.algebra.proofs.Elements.{element, pow_is_power, elements_ring}
 use Rattle.algebra.proofs.RingSolver.{◌:+◌, ◌:*◌, solve5}
 
 -- the symbols of w come in after `sum`, which is multiplied by x each time
@@ -24,4 +24,4 @@ module _ (A : Arith) (L : Laws A) where
       horner_value x (A.add (A.mul c x) d) w hx (L.ring.add_code _ d, h.1.1)
       ∙ ap (λ v. v.code)
       (solve5 (elements_ring A L.ring) (λ c x d P V. (c :* x :+ d) :* P :+ V) (λ c x d P V. c :* (x :* P) :+ (d :* P :+ V)) refl
-      (element c h.0) (element x hx) (element d h.1.0) (element (pow (ops A) x (length w)) (power_code A L.ring x (length w))) (element (value (ops A) w x) (value_code w x)))
+      (element c h.0) (element x hx) (element d h.1.0) (element (pow (ops A) x (length w)) (rw pow_is_power (power_code A L.ring x (length w)))) (element (value (ops A) w x) (value_code w x)))

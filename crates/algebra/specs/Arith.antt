@@ -5,7 +5,7 @@ use Rattle.std.specs.Prelude.{◌≡◌, ℕ, zero, suc, ◌<◌, ◌≤◌, ◌
 -- `order` is the number of powers of `root`.
 pub record Arith : Type 0 where
   pub size : ℕ
-  pub ground : ℕ
+  pub ground_size : ℕ
   pub order : ℕ
   pub root : ℕ
   pub add : ℕ → ℕ → ℕ
@@ -50,10 +50,10 @@ pub record Laws (A : Arith) : Type 0 where
   pub mul-inv : (a : ℕ) → a < A.size → (a ≢ 0) → A.mul a (A.inv a) ≡ 1
   pub inv-zero : A.inv 0 ≡ 0
   pub inv_outside : (a : ℕ) → A.size ≤ a → A.inv a ≡ 0
-  pub ground_low : 2 ≤ A.ground
-  pub ground_high : A.ground ≤ A.size
-  pub add-one : (a : ℕ) → suc a < A.ground → A.add a 1 ≡ suc a
-  pub add_one_last : (a : ℕ) → suc a ≡ A.ground → A.add a 1 ≡ 0
+  pub ground_low : 2 ≤ A.ground_size
+  pub ground_high : A.ground_size ≤ A.size
+  pub add-one : (a : ℕ) → suc a < A.ground_size → A.add a 1 ≡ suc a
+  pub add_one_last : (a : ℕ) → suc a ≡ A.ground_size → A.add a 1 ≡ 0
   pub order_low : 2 ≤ A.order
   pub order_high : suc A.order ≤ A.size
   pub root_code : A.root < A.size

@@ -26,7 +26,7 @@ module _ (A : Arith) where
   -- how many symbols an alphabet has: they are the codes below that number
   abbrev pub symbols : Alphabet → ℕ
   symbols Whole = A.size
-  symbols Ground = A.ground
+  symbols Ground = A.ground_size
 
   -- α^e
   abbrev pub root_power : ℕ → ℕ
@@ -34,7 +34,7 @@ module _ (A : Arith) where
 
   -- e × p modulo N
   abbrev pub conjugate : ℕ → ℕ
-  conjugate e = e * A.ground % A.order
+  conjugate e = e * A.ground_size % A.order
 
   -- how many check values there are: δ − 1
   abbrev pub check_count : Design → ℕ

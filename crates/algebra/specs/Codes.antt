@@ -17,7 +17,7 @@ on_codes q p N root sum negative product =
     let mul : ℕ → ℕ → ℕ = λ a b. within q a (within q b (product a b)) in
     record {
       size = q;
-      ground = p;
+      ground_size = p;
       order = N;
       root = root;
       add = λ a b. within q a (within q b (sum a b));

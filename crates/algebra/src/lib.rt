@@ -1,4 +1,5 @@
-// What a field is, what a code over a field is, and the mathematics of both: definitions and theorems, and no program.
+//! What a field is, what a code over a field is, and the mathematics of both: definitions and theorems, and no program.
+#![tactic(auto)]
 
 // Which symbols a code has: all codes of its field, or the ground codes alone.
 #[derive(Clone, Copy)]

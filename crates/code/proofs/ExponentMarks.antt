@@ -29,7 +29,7 @@ module _ (A : Arith) (L : Laws A) (D : Design) where
   set_closed Whole is e t =
       let low : e < A.order = member-all (λ x. x < A.order) e (exponents A D) (exponents_smallest A L D).below (member e t) in
       subst (λ x. T (in_set x)) (sym (ap (λ x. x % A.order) (mul-one e) ∙ mod-eq_of_lt low)) t
-  set_closed Ground is e t = is_in (step A.order A.ground e) ((exponents_smallest A L D).closed is e (member e t))
+  set_closed Ground is e t = is_in (step A.order A.ground_size e) ((exponents_smallest A L D).closed is e (member e t))
 
   pub marks_are_exponents : (marks : List Bool) → MarkedRun A.order (factor A D.alphabet) D.first (D.distance - 1) marks → exponents A D ≡ filter (marked marks) (range_with_len 0 A.order)
   marks_are_exponents marks m =

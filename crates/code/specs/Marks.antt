@@ -11,7 +11,7 @@ marked marks e = slice_index_or marks e false
 -- what an exponent is multiplied by to reach the next one that goes with it: 1 leads to itself
 abbrev pub factor : Arith → Alphabet → ℕ
 factor A Whole = 1
-factor A Ground = A.ground
+factor A Ground = A.ground_size
 
 -- e times the factor, modulo the order
 abbrev pub step : ℕ → ℕ → ℕ → ℕ

@@ -1,4 +1,6 @@
-// Codes over any field: opening one, the systematic encoder, and check values.
+//! Codes over any field: opening one, the systematic encoder, and check values.
+#![tactic(auto)]
+
 mod binary;
 mod block;
 mod exponents;

@@ -19,7 +19,7 @@ abbrev pub powers_of : Arith → List ℕ
 powers_of A = map (power A.mul A.root) (range_with_len 0 A.order)
 
 abbrev pub field_line : Arith → List ℕ
-field_line A = codes "field size " ++ (decimal A.size ++ (codes " ground " ++ (decimal A.ground ++ (codes " order " ++ (decimal A.order ++ (codes " root " ++ decimal A.root))))))
+field_line A = codes "field size " ++ (decimal A.size ++ (codes " ground " ++ (decimal A.ground_size ++ (codes " order " ++ (decimal A.order ++ (codes " root " ++ decimal A.root))))))
 
 abbrev pub opened_line : Result Arith FieldFault → List ℕ
 opened_line (Ok A) = field_line A

@@ -1,4 +1,6 @@
-// The console's commands, and the line that answers each.
+//! The console's commands, and the line that answers each.
+#![tactic(auto)]
+
 mod command;
 mod complaint;
 mod desk;

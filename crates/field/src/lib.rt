@@ -1,4 +1,6 @@
-// Finite fields on codes: the interface with its laws, the binary fields and the prime field.
+//! Finite fields on codes: the interface with its laws, the binary fields and the prime field.
+#![tactic(auto)]
+
 ghost use Rattle.std.specs.Prelude.{◌≡◌};
 ghost use Rattle.algebra.specs.Arith.{Arith, Laws, power};
 
@@ -27,7 +29,7 @@ pub trait Field {
 
     // How many codes are sums of 1: these are the lowest ones.
     fn ground(&self) -> u16
-        ensures { sound self.now → result ≡ (meaning self.now).ground };
+        ensures { sound self.now → result ≡ (meaning self.now).ground_size };
 
     // How many powers the root has.
     fn order(&self) -> u16

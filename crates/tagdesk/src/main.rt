@@ -1,4 +1,6 @@
-// The console: reads commands, a line each, and answers each with one line.
+//! The console: reads commands, a line each, and answers each with one line.
+#![tactic(auto)]
+
 use anyhow::anyhow;
 use console::Desk;
 use std::env;

@@ -1,4 +1,6 @@
-// Runs the worked examples, and says what was compared.
+//! Runs the worked examples, and says what was compared.
+#![tactic(auto)]
+
 ghost use Rattle.std.specs.Prelude.{◌≡◌, true};
 ghost use Rattle.worked.specs.Examples.{worked_examples};
 

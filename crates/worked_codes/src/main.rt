@@ -1,4 +1,6 @@
-// Runs the worked examples of codes, and says what was compared.
+//! Runs the worked examples of codes, and says what was compared.
+#![tactic(auto)]
+
 ghost use Rattle.std.specs.Prelude.{◌≡◌, true};
 ghost use Rattle.worked_codes.specs.Examples.{code_examples};
 

@@ -13,7 +13,7 @@ times-x-power-requires c = record { shape = c.requires.shape; code = one_below c
 
 pub loop-power-init : goal.loop-power-init
 loop-power-init c =
-    (c.times-x-power.ensures.code, c.times-x-power.ensures.product, omega arith, one_below c.args.degree c.args.polynomial c.requires.shape, λ k pos h e. omega arith)
+    (c.times_x-power.ensures.code, c.times_x-power.ensures.product, omega arith, one_below c.args.degree c.args.polynomial c.requires.shape, λ k pos h e. omega arith)
 
 pub loop-power-preserved : goal.loop-power-preserved
 loop-power-preserved c =
@@ -24,8 +24,8 @@ loop-power-preserved c =
     let never = not_yet step l.exponent l.power l.invariant.1 c.loop-power-test.true l.invariant.4 in
     let more : l.exponent + 1 < 2 ^ m =
     elim (cases_lt (l.exponent + 1) (2 ^ m)) [ inl h ↦ h | inr h ↦ absurd (returns_soon m P c.requires.shape c.requires.odd (λ k pos lt. never k pos (omega arith))) ] in (
-      c.times-x-power-in-loop-power.ensures.code,
-      c.times-x-power-in-loop-power.ensures.product ∙ ap step l.invariant.1 ∙ ap (λ k. iterate step k 1) (sym (add-one l.exponent)),
+      c.times_x-power-in-loop-power.ensures.code,
+      c.times_x-power-in-loop-power.ensures.product ∙ ap step l.invariant.1 ∙ ap (λ k. iterate step k 1) (sym (add-one l.exponent)),
       omega arith,
       more,
       never,

@@ -28,8 +28,8 @@ pub returns-then-exponent-degree : goal.returns-then-exponent-degree
 returns-then-exponent-degree c =
     let m = c.args.degree in
     let P = c.args.polynomial in
-    let p = c.if-not-has-degree.ensures in
-    let found = c.first-return-exponent.ensures.found in
+    let p = c.if-not-has_degree.ensures in
+    let found = c.first_return-exponent.ensures.found in
     told
     (ap (λ n. Err (RootOrder n)) (c.from.ensures ∙ found)
     ∙ sym (opening_root m P p.0 p.1 (λ e. c.if-exponent-degree.true (found ∙ e ∙ sym (order_is m p.0.1)))))
@@ -42,6 +42,6 @@ invariant-of-result c =
 
 pub returns : goal.returns
 returns c =
-    let p = c.if-not-has-degree.ensures in
+    let p = c.if-not-has_degree.ensures in
     let e = c.if-exponent-degree.false ∙ order_is c.args.degree p.0.1 in
-    told (sym (opening_field c.args.degree c.args.polynomial p.0 p.1 (sym c.first-return-exponent.ensures.found ∙ e)))
+    told (sym (opening_field c.args.degree c.args.polynomial p.0 p.1 (sym c.first_return-exponent.ensures.found ∙ e)))

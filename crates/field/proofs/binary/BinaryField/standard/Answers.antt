@@ -4,5 +4,5 @@ use Rattle.field.proofs.binary.BinaryField.standard.Goals as goal
 
 pub returns : goal.returns
 returns c =
-    let d = c.if-not-is-degree.ensures in
+    let d = c.if-not-is_degree.ensures in
     record { answer = c.open.ensures.answer ∙ supplied_opens c.args.degree d.0 d.1; sound = c.open.ensures.sound }

@@ -14,8 +14,8 @@ loop-i-preserved c =
     let m = c.args.self.now.degree in
     let P = c.args.self.now.polynomial in
     let l = c.loop-i in (
-      c.times-x-shifted.ensures.code,
-      c.times-x-shifted.ensures.product ∙ root_raises m P c.args.self.now.shape l.shifted l.invariant.0
+      c.times_x-shifted.ensures.code,
+      c.times_x-shifted.ensures.product ∙ root_raises m P c.args.self.now.shape l.shifted l.invariant.0
           ∙ raised_more m P c.args.a c.args.b l.i l.shifted l.invariant.1,
       elim c.if-b-i-eq1.branch [
         | then-b-i-eq1 w ↦ w.product-is ∙ partial_term m P c.args.a c.args.b l.i l.shifted l.product w.if-b-i-eq1.true l.invariant.1 l.invariant.2
