@@ -2,4 +2,3 @@ pub mod Fault
 pub mod Opening
 pub mod Supplied
 pub mod Any
-pub mod Kept

@@ -1,7 +1,8 @@
 // A field of either kind, for callers that learn the kind at run time.
 ghost use Rattle.field.specs.Any.{any_meaning};
 ghost use Rattle.field.specs.declared.any.AnyField.TheVariants.{Binary, Prime};
-ghost use Rattle.field.specs.Kept.{binary_kept, prime_kept};
+ghost use Rattle.algebra.proofs.BinaryLaws.{binary_laws};
+ghost use Rattle.algebra.proofs.Integers.{modulo_laws};
 
 use crate::{BinaryField, Field, PrimeField};
 
@@ -16,7 +17,7 @@ impl Field for AnyField {
 
     ghost sound = { λ _. Unit {0} };
 
-    ghost keeps = { elim [ Binary f ↦ λ s. binary_kept f | Prime f ↦ λ s. prime_kept f ] };
+    ghost keeps = { elim [ Binary f ↦ λ _. binary_laws f.degree f.polynomial f.shape f.returns | Prime f ↦ λ _. modulo_laws f.modulus f.root f.low f.high f.inside f.returns ] };
 
     fn size(&self) -> u16 {
         match self {

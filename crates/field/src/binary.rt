@@ -2,7 +2,7 @@
 ghost use Rattle.std.specs.Prelude.{◌≡◌, ◌-◌, ◌%◌, ◌^◌, ◌<◌};
 ghost use Rattle.algebra.specs.Search.{Returns, root_return};
 ghost use Rattle.algebra.specs.Binary.{binary, Shape};
-ghost use Rattle.std.proofs.Common.{rules, arith};
+ghost use Rattle.algebra.proofs.BinaryLaws.{binary_laws};
 
 use crate::Field;
 
@@ -60,7 +60,7 @@ impl Field for BinaryField {
 
     ghost sound = { λ _. Unit {0} };
 
-    ghost keeps = { first_of (Prim.search rules, Prim.grind (arith, Self.row.coded.inj)) };
+    ghost keeps = { λ f _. binary_laws f.degree f.polynomial f.shape f.returns };
 
     fn size(&self) -> u16 {
         1 << self.degree

@@ -2,7 +2,7 @@
 ghost use Rattle.std.specs.Prelude.{◌-◌, ◌<◌, ◌≤◌};
 ghost use Rattle.algebra.specs.Codes.{modulo};
 ghost use Rattle.algebra.specs.Search.{Returns};
-ghost use Rattle.std.proofs.Common.{rules, arith};
+ghost use Rattle.algebra.proofs.Integers.{modulo_laws};
 
 use crate::Field;
 
@@ -24,7 +24,7 @@ impl Field for PrimeField {
 
     ghost sound = { λ _. Unit {0} };
 
-    ghost keeps = { first_of (Prim.search rules, Prim.grind (arith, Self.row.coded.inj)) };
+    ghost keeps = { λ f _. modulo_laws f.modulus f.root f.low f.high f.inside f.returns };
 
     fn size(&self) -> u16 {
         self.modulus

@@ -8,9 +8,9 @@ loop-i-init c = run_begins c.args.order c.args.factor c.args.first
 
 pub loop-i-preserved : goal.loop-i-preserved
 loop-i-preserved c =
-    let m = c.mark-orbit.ensures in
+    let m = c.mark_orbit.ensures in
     let was = c.loop-i.invariant.size in
-    run_goes_on c.args.order c.args.factor c.args.first c.loop-i.i c.loop-i.marks c.mark-orbit.new.marks c.loop-i.invariant (omega arith) m.kept m.started m.closed m.least
+    run_goes_on c.args.order c.args.factor c.args.first c.loop-i.i c.loop-i.marks c.mark_orbit.new.marks c.loop-i.invariant (omega arith) m.kept m.started m.closed m.least
 
 pub returns : goal.returns
 returns c =

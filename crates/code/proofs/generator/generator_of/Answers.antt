@@ -13,9 +13,9 @@ loop-i-preserved g c =
     let size = c.loop-i.invariant.0 in (
       search (rules, places),
       λ s.
-          factor_turn A c.power-point.result c.loop-i.product c.multiply-by-factor.new.word _ c.args.exponents.now i _ (omega arith) (omega arith) (omega arith)
+          factor_turn A c.power-point.result c.loop-i.product c.multiply_by_factor.new.word _ c.args.exponents.now i _ (omega arith) (omega arith) (omega arith)
           (c.power-point.ensures s ∙ ap (λ root. power A.mul root (get_or c.args.exponents.now i 0)) (c.root-root.ensures s))
-          (c.multiply-by-factor.ensures s)
+          (c.multiply_by_factor.ensures s)
           ∙ c.loop-i.invariant.1 s,
     )
 

@@ -4,6 +4,6 @@ use Rattle.code.proofs.words.divide.Goals as goal
 
 pub loop-i-preserved : goal.loop-i-preserved
 loop-i-preserved g c s =
-    divide_turn (g.F.Field.meaning c.args.field.now) c.args.divisor.now c.loop-i.word c.subtract-multiple.new.word c.args.steps c.loop-i.i
-    (omega arith) (omega arith) (c.subtract-multiple.ensures s)
+    divide_turn (g.F.Field.meaning c.args.field.now) c.args.divisor.now c.loop-i.word c.subtract_multiple.new.word c.args.steps c.loop-i.i
+    (omega arith) (omega arith) (c.subtract_multiple.ensures s)
     ∙ c.loop-i.invariant s

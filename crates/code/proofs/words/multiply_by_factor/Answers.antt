@@ -4,7 +4,7 @@ use Rattle.code.proofs.words.multiply_by_factor.Goals as goal
 
 pub loop-i-preserved : goal.loop-i-preserved
 loop-i-preserved g c s =
-    multiply_turn (g.F.Field.meaning c.args.field.now) c.args.root c.loop-i.word c.loop-i.i _ c.loop-i.above (omega arith) (c.minus-product.ensures s)
+    multiply_turn (g.F.Field.meaning c.args.field.now) c.args.root c.loop-i.word c.loop-i.i _ c.loop-i.above (omega arith) (c.minus_product.ensures s)
     ∙ c.loop-i.invariant s
 
 pub returns : goal.returns

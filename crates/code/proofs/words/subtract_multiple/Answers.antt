@@ -6,7 +6,7 @@ use Rattle.code.proofs.words.subtract_multiple.Goals as goal
 pub loop-i-preserved : goal.loop-i-preserved
 loop-i-preserved g c s =
     subtract_turn (g.F.Field.meaning c.args.field.now) c.args.factor c.loop-i.word c.args.other.now c.loop-i.i _ (omega arith) (omega arith)
-    (c.minus-product.ensures s)
+    (c.minus_product.ensures s)
     ∙ c.loop-i.invariant s
 
 pub returns : goal.returns

@@ -8,7 +8,7 @@ loop-i-preserved g c s =
     let A = g.F.Field.meaning c.args.field.now in
     let i = c.loop-i.-i in
     let was = c.loop-i.invariant s in
-    let items = c.in-ok-push.ensures.items in (
+    let items = c.in_ok-push.ensures.items in (
       c.mul-power.ensures s ∙ ap₂ A.mul (c.root-root.ensures s) was.0 ∙ ap (power A.mul A.root) (sym (add-one i)),
       items ∙ ap₂ (λ l x. l ++ (x ∷ [])) was.1 was.0 ∙ sym (map-range_with_len_more (power A.mul A.root) 0 i i (omega arith)),
     )

@@ -6,13 +6,13 @@ use Rattle.field.proofs.Field.power.Goals.{then-left-eq1, else-left-eq1}
 
 pub loop-left-init : goal.loop-left-init
 loop-left-init g c s =
-    let A = g.Self-as-Field.meaning c.args.self.now in
+    let A = g.Self.Field.meaning c.args.self.now in
     let R = (g.met.Self.Field.keeps c.args.self.now s).ring in
     (one_code A R, one-mul A R _ (power_code A R c.args.a c.args.exponent))
 
 pub loop-left-preserved : goal.loop-left-preserved
 loop-left-preserved g c s =
-    let A = g.Self-as-Field.meaning c.args.self.now in
+    let A = g.Self.Field.meaning c.args.self.now in
     let R = (g.met.Self.Field.keeps c.args.self.now s).ring in
     let p = c.loop-left.product in
     let x = c.loop-left.square in

@@ -8,8 +8,8 @@ use Rattle.algebra.proofs.Walks.{not_yet, first_return}
 use Rattle.algebra.proofs.RootReturns.{returns_soon}
 use Rattle.field.proofs.binary.first_return.Goals as goal
 
-pub times-x-power-requires : goal.times-x-power-requires
-times-x-power-requires c = record { shape = c.requires.shape; code = one_below c.args.degree c.args.polynomial c.requires.shape }
+pub times_x-power-requires : goal.times_x-power-requires
+times_x-power-requires c = record { shape = c.requires.shape; code = one_below c.args.degree c.args.polynomial c.requires.shape }
 
 pub loop-power-init : goal.loop-power-init
 loop-power-init c =

@@ -8,8 +8,8 @@ use Rattle.code.proofs.Judged.{call_answer}
 use Rattle.code.proofs.Outside.{all_codes}
 use Rattle.code.proofs.block.Code.check_values.Goals as goal
 
-pub returns-in-err-judge : goal.returns-in-err-judge
-returns-in-err-judge g c =
+pub returns-in_err-judge : goal.returns-in_err-judge
+returns-in_err-judge g c =
     let A = g.F.Field.meaning c.args.field.now in
     let D = c.args.self.now.design in
     let p = err_from_is_err_and c.from-residual.result c.from-residual.ensures.1 in
@@ -17,9 +17,9 @@ returns-in-err-judge g c =
     (record {
       answer = λ s o.
           call_answer (check_values A D c.args.word.now ++ drop (check_count A D) c.args.list.now) _ _ _ _ _ _ _ _ _ c.length.ensures
-          (c.symbol-count-limit.ensures s ∙ ap (symbols A) c.alphabet.ensures) (ap (λ d. d - 1) c.distance-count.ensures) c.in-err-judge.ensures.answer;
+          (c.symbol_count-limit.ensures s ∙ ap (symbols A) c.alphabet.ensures) (ap (λ d. d - 1) c.distance-count.ensures) c.in_err-judge.ensures.answer;
       kept = refl;
-      tell-codewords = checks_tell_codewords A D;
+      tell_codewords = checks_tell_codewords A D;
     })
 
 pub returns : goal.returns
@@ -27,14 +27,14 @@ returns g c =
     let A : Arith = g.F.Field.meaning c.args.field.now in
     let D = c.args.self.now.design in
     let list = c.args.list.now in
-    let judged-ok = c.in-ok-judge.ensures in
+    let judged-ok = c.in_ok-judge.ensures in
     let n : c.distance-count.result - 1 - 0 ≡ check_count A D = omega (arith, c.distance-count.ensures) in
     let room : check_count A D ≤ length list = omega (arith, judged-ok.passed.1, c.distance-count.ensures) in
     record {
       answer = λ s o.
-          ap Ok (ap₂ (λ values k. values ++ drop k list) (c.write-check-values.ensures s o (all_codes A (g.met.F.Field.keeps c.args.field.now s) D.alphabet _ _ (c.symbol-count-limit.ensures s ∙ ap (symbols A) c.alphabet.ensures) judged-ok.inside) (length-take-le _ list (omega arith) ∙ n)) n)
+          ap Ok (ap₂ (λ values k. values ++ drop k list) (c.write_check_values.ensures s o (all_codes A (g.met.F.Field.keeps c.args.field.now s) D.alphabet _ _ (c.symbol_count-limit.ensures s ∙ ap (symbols A) c.alphabet.ensures) judged-ok.inside) (length-take-le _ list (omega arith) ∙ n)) n)
           ∙ call_answer (check_values A D c.args.word.now ++ drop (check_count A D) list) _ _ _ _ _ _ _ _ _ c.length.ensures
-          (c.symbol-count-limit.ensures s ∙ ap (symbols A) c.alphabet.ensures) (ap (λ d. d - 1) c.distance-count.ensures) judged-ok.answer;
+          (c.symbol_count-limit.ensures s ∙ ap (symbols A) c.alphabet.ensures) (ap (λ d. d - 1) c.distance-count.ensures) judged-ok.answer;
       kept = tt;
-      tell-codewords = checks_tell_codewords A D;
+      tell_codewords = checks_tell_codewords A D;
     }

@@ -23,26 +23,26 @@ refusing A D {order} {bounded} laws is least refused =
       exponents_smallest = λ s. exponents_smallest A (laws s) D;
     }
 
-pub returns-then-not-is-length : goal.returns-then-not-is-length
-returns-then-not-is-length g c =
+pub returns-then-not-is_length : goal.returns-then-not-is_length
+returns-then-not-is_length g c =
     let A = g.F.Field.meaning c.args.field.now in
     let D = c.args.design in
     refusing A D (g.met.F.Field.keeps c.args.field.now) c.order.ensures c.min-order.ensures
-    (λ s e. refused_length A D (is_long A D _ e c.if-not-is-length.ensures))
+    (λ s e. refused_length A D (is_long A D _ e c.if-not-is_length.ensures))
 
 pub returns-then-design-order : goal.returns-then-design-order
 returns-then-design-order g c =
     let A = g.F.Field.meaning c.args.field.now in
     let D = c.args.design in
     refusing A D (g.met.F.Field.keeps c.args.field.now) c.order.ensures c.min-order.ensures
-    (λ s e. refused_first A D (is_long A D _ e c.if-not-is-length.ensures) (subst (λ n. n ≤ D.first) e c.if-design-order.true))
+    (λ s e. refused_first A D (is_long A D _ e c.if-not-is_length.ensures) (subst (λ n. n ≤ D.first) e c.if-design-order.true))
 
-pub returns-then-not-is-distance : goal.returns-then-not-is-distance
-returns-then-not-is-distance g c =
+pub returns-then-not-is_distance : goal.returns-then-not-is_distance
+returns-then-not-is_distance g c =
     let A = g.F.Field.meaning c.args.field.now in
     let D = c.args.design in
     refusing A D (g.met.F.Field.keeps c.args.field.now) c.order.ensures c.min-order.ensures
-    (λ s e. refused_distance A D (is_long A D _ e c.if-not-is-length.ensures) (starts A D _ e c.if-design-order.false) (sym c.if-not-is-distance.ensures))
+    (λ s e. refused_distance A D (is_long A D _ e c.if-not-is_length.ensures) (starts A D _ e c.if-design-order.false) (sym c.if-not-is_distance.ensures))
 
 pub returns-then-redundancy-design : goal.returns-then-redundancy-design
 returns-then-redundancy-design g c =
@@ -50,8 +50,8 @@ returns-then-redundancy-design g c =
     let D = c.args.design in
     refusing A D (g.met.F.Field.keeps c.args.field.now) c.order.ensures c.min-order.ensures
     (λ s e.
-    let r = c.exponent-set-redundancy.ensures.count s e in
-    let p = passes A D _ e c.if-not-is-length.ensures c.if-design-order.false c.if-not-is-distance.ensures in
+    let r = c.exponent_set-redundancy.ensures.count s e in
+    let p = passes A D _ e c.if-not-is_length.ensures c.if-design-order.false c.if-not-is_distance.ensures in
     refused_redundancy A D p (subst (λ n. D.length ≤ n) r c.if-redundancy-design.true) ∙ ap (λ n. Err (Redundancy n)) (sym r))
 
 pub returns-in-Some : goal.returns-in-Some
@@ -60,13 +60,13 @@ returns-in-Some g c =
     let D = c.args.design in
     refusing A D (g.met.F.Field.keeps c.args.field.now) c.order.ensures c.min-order.ensures
     (λ s e.
-    let r = c.exponent-set-redundancy.ensures.count s e in
-    let p = passes A D _ e c.if-not-is-length.ensures c.if-design-order.false c.if-not-is-distance.ensures in
+    let r = c.exponent_set-redundancy.ensures.count s e in
+    let p = passes A D _ e c.if-not-is_length.ensures c.if-design-order.false c.if-not-is_distance.ensures in
     let room = c.if-redundancy-design.false in
     let few = short A D p in
-    let table = generator_table A D _ _ _ _ _ r (c.exponent-set-redundancy.ensures.listed s e (omega arith)) (omega arith) (omega arith) (c.generator-of-generator.ensures.product s) in
+    let table = generator_table A D _ _ _ _ _ r (c.exponent_set-redundancy.ensures.listed s e (omega arith)) (omega arith) (omega arith) (c.generator_of-generator.ensures.product s) in
     refused_generator A D p (subst (λ n. n < D.length) r room) c.in-Some.place
-    (sym (c.in-Some.ensures.found ∙ ap₂ outside (c.symbol-count-limit.ensures s) table))
+    (sym (c.in-Some.ensures.found ∙ ap₂ outside (c.symbol_count-limit.ensures s) table))
     ∙ ap (λ n. Err (Generator (n - c.in-Some.place))) (sym r))
 
 pub returns : goal.returns
@@ -74,17 +74,17 @@ returns g c =
     let A = g.F.Field.meaning c.args.field.now in
     let L = g.met.F.Field.keeps c.args.field.now in
     let D = c.args.design in
-    let count = c.exponent-set-redundancy.result.0 in
-    let passed : g.F.Field.sound c.args.field.now → Stands A D count c.exponent-set-redundancy.result.1 c.generator-of-generator.result = λ s.
+    let count = c.exponent_set-redundancy.result.0 in
+    let passed : g.F.Field.sound c.args.field.now → Stands A D count c.exponent_set-redundancy.result.1 c.generator_of-generator.result = λ s.
     let e = order_is A (L s) _ _ (c.order.ensures s) c.min-order.ensures in
-    let p = passes A D _ e c.if-not-is-length.ensures c.if-design-order.false c.if-not-is-distance.ensures in
-    let r = c.exponent-set-redundancy.ensures.count s e in
+    let p = passes A D _ e c.if-not-is_length.ensures c.if-design-order.false c.if-not-is_distance.ensures in
+    let r = c.exponent_set-redundancy.ensures.count s e in
     let h = c.if-redundancy-design.false in
     let few = short A D p in
     let room = subst (λ n. n < D.length) r h in
-    let listed = c.exponent-set-redundancy.ensures.listed s e (omega arith) in
-    let product = c.generator-of-generator.ensures.product s in
-    let none = sym (c.in-default.ensures.found ∙ ap₂ outside (c.symbol-count-limit.ensures s) (generator_table A D _ _ _ _ _ r listed (omega arith) (omega arith) product)) in
+    let listed = c.exponent_set-redundancy.ensures.listed s e (omega arith) in
+    let product = c.generator_of-generator.ensures.product s in
+    let none = sym (c.in_default.ensures.found ∙ ap₂ outside (c.symbol_count-limit.ensures s) (generator_table A D _ _ _ _ _ r listed (omega arith) (omega arith) product)) in
     record {
       answer = opening_accepts A D p room none;
       accepted = opening_accepted A D p room none;

@@ -23,7 +23,7 @@ loop-i-preserved g c s o all =
     let point : c.loop-i.point < A.size = subst (λ p. p < A.size) (sym was.0) (power_code A L.ring A.root (b + i)) in
     let word = c.args.word.now in (
       next_point A b word i _ _ _ (c.root-root.ensures s) was.0 (c.mul-point.ensures s),
-      one_more_check A b word c.loop-i.list i _ (omega arith) (c.value-at.ensures s point all ∙ ap (value (ops A) word) was.0) was.1,
+      one_more_check A b word c.loop-i.list i _ (omega arith) (c.value_at.ensures s point all ∙ ap (value (ops A) word) was.0) was.1,
     )
 
 pub returns : goal.returns

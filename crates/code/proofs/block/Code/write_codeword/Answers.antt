@@ -8,5 +8,5 @@ returns g c s o n m =
     let code = c.args.self.now in
     let some = o.accepted.some_message in
     encodes_in_place (g.F.Field.meaning c.args.field.now) code.design c.args.message.now c.args.word.now c.requires (omega arith)
-    _ _ _ _ _ _ c.write-front.ensures c.clear-from.ensures (between_is code.generator 1 (code.redundancy + 1) ∙ ap (drop 1) o.generator_is)
-    (c.divide.ensures s) c.write-front-2.ensures (c.negate.ensures s)
+    _ _ _ _ _ _ c.write_front.ensures c.clear_from.ensures (between_is code.generator 1 (code.redundancy + 1) ∙ ap (drop 1) o.generator_is)
+    (c.divide.ensures s) c.write_front-2.ensures (c.negate.ensures s)

@@ -16,13 +16,13 @@ told a = record { answer = a; sound = tt; root_returns = root_returns; product_i
 order_is : (m : ℕ) → m ≤ 10 → 1 * 2 ^ m % 2 ^ 16 - 1 ≡ 2 ^ m - 1
 order_is m h = ap (λ n. n - 1) (one_shl m 16 (omega arith))
 
-pub returns-then-not-is-degree : goal.returns-then-not-is-degree
-returns-then-not-is-degree c = told (sym (opening_degree c.args.degree c.args.polynomial c.if-not-is-degree.ensures))
+pub returns-then-not-is_degree : goal.returns-then-not-is_degree
+returns-then-not-is_degree c = told (sym (opening_degree c.args.degree c.args.polynomial c.if-not-is_degree.ensures))
 
-pub returns-then-not-has-degree : goal.returns-then-not-has-degree
-returns-then-not-has-degree c =
-    let d = c.if-not-is-degree.ensures in
-    told (sym (opening_polynomial c.args.degree c.args.polynomial d.0 d.1 c.if-not-has-degree.ensures))
+pub returns-then-not-has_degree : goal.returns-then-not-has_degree
+returns-then-not-has_degree c =
+    let d = c.if-not-is_degree.ensures in
+    told (sym (opening_polynomial c.args.degree c.args.polynomial d.0 d.1 c.if-not-has_degree.ensures))
 
 pub returns-then-exponent-degree : goal.returns-then-exponent-degree
 returns-then-exponent-degree c =
@@ -34,11 +34,11 @@ returns-then-exponent-degree c =
     (ap (λ n. Err (RootOrder n)) (c.from.ensures ∙ found)
     ∙ sym (opening_root m P p.0 p.1 (λ e. c.if-exponent-degree.true (found ∙ e ∙ sym (order_is m p.0.1)))))
 
-pub invariant-of-result : goal.invariant-of-result
-invariant-of-result c =
-    let p = c.if-not-has-degree.ensures in
+pub invariant_of-result : goal.invariant_of-result
+invariant_of-result c =
+    let p = c.if-not-has_degree.ensures in
     let e = c.if-exponent-degree.false ∙ order_is c.args.degree p.0.1 in
-    (p.0, (subst (Returns ((binary c.args.degree c.args.polynomial).mul 2)) e c.first-return-exponent.ensures.returns, tt))
+    record { shape = p.0; returns = subst (Returns ((binary c.args.degree c.args.polynomial).mul 2)) e c.first_return-exponent.ensures.returns }
 
 pub returns : goal.returns
 returns c =

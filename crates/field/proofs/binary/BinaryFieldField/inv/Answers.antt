@@ -2,7 +2,7 @@ use Rattle.std.proofs.Common.{sym, ◌∙◌, arith}
 use Rattle.algebra.specs.Binary.{binary}
 use Rattle.algebra.proofs.BinaryLaws.{four_codes}
 use Rattle.algebra.proofs.Cyclic.{inverse_by_power}
-use Rattle.field.specs.Kept.{binary_kept}
+use Rattle.field.proofs.Kept.{binary_kept}
 use Rattle.field.proofs.binary.BinaryFieldField.inv.Goals as goal
 
 pub returns-then-a-size : goal.returns-then-a-size

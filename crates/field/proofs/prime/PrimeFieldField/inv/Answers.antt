@@ -1,7 +1,7 @@
 use Rattle.std.proofs.Common.{sym, ◌∙◌, arith}
 use Rattle.algebra.specs.Codes.{modulo}
 use Rattle.algebra.proofs.Cyclic.{inverse_by_power}
-use Rattle.field.specs.Kept.{prime_kept}
+use Rattle.field.proofs.Kept.{prime_kept}
 use Rattle.field.proofs.prime.PrimeFieldField.inv.Goals as goal
 
 pub returns-then-a-self : goal.returns-then-a-self
