@@ -11,7 +11,7 @@ use field::Field;
 pub(crate) fn generator_of<F: Field>(field: &F, exponents: &[u16]) -> [u16; LONGEST]
     requires { length exponents.now < 255 }
     ensures size { length result ≡ 255 }
-    ensures product { sound field.now → take (suc (length exponents.now)) result ≡ times_factors (ops (meaning field.now)) (1 ∷ []) (map (root_power (meaning field.now)) exponents.now) }
+    ensures product { F.sound field.now → take (suc (length exponents.now)) result ≡ times_factors (ops (F.meaning field.now)) (1 ∷ []) (map (root_power (F.meaning field.now)) exponents.now) }
 {
     let root = field.root();
     let mut product = [0; LONGEST];

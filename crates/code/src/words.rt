@@ -10,7 +10,7 @@ use field::Field;
 
 // How many symbols the alphabet has.
 pub(crate) fn symbol_count<F: Field>(field: &F, alphabet: Alphabet) -> u16
-    ensures { sound field.now → result ≡ symbols (meaning field.now) alphabet }
+    ensures { F.sound field.now → result ≡ symbols (F.meaning field.now) alphabet }
 {
     match alphabet {
         Alphabet::Whole => field.size(),
@@ -20,14 +20,14 @@ pub(crate) fn symbol_count<F: Field>(field: &F, alphabet: Alphabet) -> u16
 
 // w - c * d
 fn minus_product<F: Field>(field: &F, w: u16, c: u16, d: u16) -> u16
-    ensures { sound field.now → result ≡ (meaning field.now).add w ((meaning field.now).neg ((meaning field.now).mul c d)) }
+    ensures { F.sound field.now → result ≡ (F.meaning field.now).add w ((F.meaning field.now).neg ((F.meaning field.now).mul c d)) }
 {
     field.add(w, field.neg(field.mul(c, d)))
 }
 
 // Takes `factor` times `other` from the word, from the first place on.
 pub(crate) fn subtract_multiple<F: Field>(field: &F, factor: u16, word: &mut [u16], other: &[u16])
-    ensures { sound field.now → word.new ≡ less (ops (meaning field.now)) factor word.old other.now }
+    ensures { F.sound field.now → word.new ≡ less (ops (F.meaning field.now)) factor word.old other.now }
 {
     for i in 0..word.len().min(other.len()) {
         word[i] = minus_product(field, word[i], factor, other[i]);
@@ -36,7 +36,7 @@ pub(crate) fn subtract_multiple<F: Field>(field: &F, factor: u16, word: &mut [u1
 
 // Multiplies by x - `root` a word whose last symbol is 0 and makes room for the product.
 pub(crate) fn multiply_by_factor<F: Field>(field: &F, root: u16, word: &mut [u16])
-    ensures { sound field.now → word.new ≡ less (ops (meaning field.now)) root word.old (0 ∷ word.old) }
+    ensures { F.sound field.now → word.new ≡ less (ops (F.meaning field.now)) root word.old (0 ∷ word.old) }
 {
     let mut above = 0;
     for i in 0..word.len() {
@@ -48,7 +48,7 @@ pub(crate) fn multiply_by_factor<F: Field>(field: &F, root: u16, word: &mut [u16
 
 // The value of the word at `x`, by Horner's rule: a product for each symbol but the first.
 pub(crate) fn value_at<F: Field>(field: &F, word: &[u16], x: u16) -> u16
-    ensures { sound field.now → x < (meaning field.now).size → All (λ s. s < (meaning field.now).size) word.now → result ≡ value (ops (meaning field.now)) word.now x }
+    ensures { F.sound field.now → x < (F.meaning field.now).size → All (λ s. s < (F.meaning field.now).size) word.now → result ≡ value (ops (F.meaning field.now)) word.now x }
 {
     if word.is_empty() {
         return 0;
@@ -77,7 +77,7 @@ pub(crate) fn first_outside(limit: u16, word: &[u16]) -> Option<usize>
 // word stands behind its first `steps` places.
 pub(crate) fn divide<F: Field>(field: &F, steps: usize, divisor: &[u16], word: &mut [u16])
     requires { steps ≤ length word.old }
-    ensures { sound field.now → drop steps word.new ≡ remainder (ops (meaning field.now)) steps divisor.now word.old }
+    ensures { F.sound field.now → drop steps word.new ≡ remainder (ops (F.meaning field.now)) steps divisor.now word.old }
 {
     for i in 0..steps {
         let lead = word[i];
@@ -87,7 +87,7 @@ pub(crate) fn divide<F: Field>(field: &F, steps: usize, divisor: &[u16], word: &
 
 // Turns each symbol into its negative.
 pub(crate) fn negate<F: Field>(field: &F, word: &mut [u16])
-    ensures { sound field.now → word.new ≡ map (meaning field.now).neg word.old }
+    ensures { F.sound field.now → word.new ≡ map (F.meaning field.now).neg word.old }
 {
     for i in 0..word.len() {
         word[i] = field.neg(word[i]);

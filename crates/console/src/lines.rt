@@ -26,7 +26,7 @@ pub fn spaced_text(heap: Global, numbers: &[u16]) -> Result<String, AllocError>
 
 // The powers of the root, from 1 on, as many as its order.
 pub fn powers<F: Field>(heap: Global, field: &F) -> Result<Vec<u16>, AllocError>
-    ensures { sound field.now → IfOk result (λ v. v.items ≡ powers_of (meaning field.now)) }
+    ensures { F.sound field.now → IfOk result (λ v. v.items ≡ powers_of (F.meaning field.now)) }
 {
     let root = field.root();
     let mut all = Vec::new(heap);
@@ -39,7 +39,7 @@ pub fn powers<F: Field>(heap: Global, field: &F) -> Result<Vec<u16>, AllocError>
 }
 
 pub fn field_text<F: Field>(heap: Global, field: &F) -> Result<String, AllocError>
-    ensures { sound field.now → IfOk result (λ s. string_bytes s ≡ field_line (meaning field.now)) }
+    ensures { F.sound field.now → IfOk result (λ s. string_bytes s ≡ field_line (F.meaning field.now)) }
 {
     let size = field.size();
     let ground = field.ground();
@@ -54,7 +54,7 @@ pub fn calculated_text<F: Field>(
     field: &F,
     question: Question,
 ) -> Result<String, AllocError>
-    ensures { sound field.now → IfOk result (λ s. string_bytes s ≡ calculated (meaning field.now) question) }
+    ensures { F.sound field.now → IfOk result (λ s. string_bytes s ≡ calculated (F.meaning field.now) question) }
 {
     match question {
         Question::Sum(a, b) => field.add(a, b).to_string(heap),

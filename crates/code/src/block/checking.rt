@@ -21,9 +21,9 @@ impl Code {
         word: &[u16],
         list: &mut [u16],
     ) -> Result<(), CodeFault>
-        ensures answer { sound field.now → Opened (meaning field.now) self.now → result_map_both (λ _. list.new) (λ fault. fault) result ≡ checking (meaning field.now) (design_of self.now) word.now list.old }
+        ensures answer { F.sound field.now → Opened (F.meaning field.now) self.now → result_map_both (λ _. list.new) (λ fault. fault) result ≡ checking (F.meaning field.now) (design_of self.now) word.now list.old }
         ensures kept { OnErr result (list.new ≡ list.old) }
-        ensures tell_codewords { ChecksTellCodewords (meaning field.now) (design_of self.now) }
+        ensures tell_codewords { ChecksTellCodewords (F.meaning field.now) (design_of self.now) }
     {
         let limit = symbol_count(field, self.alphabet());
         let count = self.distance() - 1;
@@ -34,7 +34,7 @@ impl Code {
 
     // Fills the list with check values, one point after the other.
     fn write_check_values<F: Field>(&self, field: &F, word: &[u16], list: &mut [u16])
-        ensures { sound field.now → Opened (meaning field.now) self.now → All (λ s. s < (meaning field.now).size) word.now → length list.old ≡ check_count (meaning field.now) (design_of self.now) → list.new ≡ check_values (meaning field.now) (design_of self.now) word.now }
+        ensures { F.sound field.now → Opened (F.meaning field.now) self.now → All (λ s. s < (F.meaning field.now).size) word.now → length list.old ≡ check_count (F.meaning field.now) (design_of self.now) → list.new ≡ check_values (F.meaning field.now) (design_of self.now) word.now }
     {
         let root = field.root();
         let mut point = self.start;

@@ -20,9 +20,9 @@ impl Code {
         message: &[u16],
         buffer: &mut [u16],
     ) -> Result<(), CodeFault>
-        ensures answer { sound field.now → Opened (meaning field.now) self.now → result_map_both (λ _. buffer.new) (λ fault. fault) result ≡ encoding (meaning field.now) (design_of self.now) message.now buffer.old }
+        ensures answer { F.sound field.now → Opened (F.meaning field.now) self.now → result_map_both (λ _. buffer.new) (λ fault. fault) result ≡ encoding (F.meaning field.now) (design_of self.now) message.now buffer.old }
         ensures kept { OnErr result (buffer.new ≡ buffer.old) }
-        ensures codeword { sound field.now → Opened (meaning field.now) self.now → EncodingIsCodeword (meaning field.now) (design_of self.now) }
+        ensures codeword { F.sound field.now → Opened (F.meaning field.now) self.now → EncodingIsCodeword (F.meaning field.now) (design_of self.now) }
     {
         let limit = symbol_count(field, self.alphabet());
         let length = self.length();
@@ -34,7 +34,7 @@ impl Code {
     // The message times x^r, less the remainder of its division by the generator.
     fn write_codeword<F: Field>(&self, field: &F, message: &[u16], word: &mut [u16])
         requires { length message.now ≤ length word.old }
-        ensures { sound field.now → Opened (meaning field.now) self.now → length word.old ≡ (design_of self.now).length → length message.now ≡ dimension (meaning field.now) (design_of self.now) → word.new ≡ encoded (meaning field.now) (design_of self.now) message.now }
+        ensures { F.sound field.now → Opened (F.meaning field.now) self.now → length word.old ≡ (design_of self.now).length → length message.now ≡ dimension (F.meaning field.now) (design_of self.now) → word.new ≡ encoded (F.meaning field.now) (design_of self.now) message.now }
     {
         let k = message.len();
         write_front(message, word);

@@ -39,7 +39,7 @@ fn is_distance(distance: u32) -> bool
 
 // Which factor leads from an exponent to the next one that goes with it.
 fn factor_of<F: Field>(field: &F, alphabet: Alphabet) -> u16
-    ensures { sound field.now → result ≡ factor (meaning field.now) alphabet }
+    ensures { F.sound field.now → result ≡ factor (F.meaning field.now) alphabet }
 {
     match alphabet {
         Alphabet::Whole => 1,
@@ -55,8 +55,8 @@ fn exponent_set<F: Field>(field: &F, order: u16, design: Design) -> (usize, [u16
     requires high { design.distance ≤ 33 }
     ensures few { result.0 ≤ 1024 }
     ensures size { length result.1 ≡ 254 }
-    ensures count { sound field.now → order ≡ (meaning field.now).order → result.0 ≡ redundancy (meaning field.now) design }
-    ensures listed { sound field.now → order ≡ (meaning field.now).order → result.0 ≤ 254 → take result.0 result.1 ≡ exponents (meaning field.now) design }
+    ensures count { F.sound field.now → order ≡ (F.meaning field.now).order → result.0 ≡ redundancy (F.meaning field.now) design }
+    ensures listed { F.sound field.now → order ≡ (F.meaning field.now).order → result.0 ≤ 254 → take result.0 result.1 ≡ exponents (F.meaning field.now) design }
 {
     let factor = factor_of(field, design.alphabet);
     let count = (design.distance - 1) as u16;
@@ -69,10 +69,10 @@ fn exponent_set<F: Field>(field: &F, order: u16, design: Design) -> (usize, [u16
 impl Code {
     // The code of this design over the field.
     pub fn open<F: Field>(field: &F, design: Design) -> Result<Code, CodeFault>
-        ensures answer { sound field.now → result_map_both design_of (λ fault. fault) result ≡ opening (meaning field.now) design }
-        ensures opened { sound field.now → IfOk result (Opened (meaning field.now)) }
-        ensures facts { sound field.now → IfOk result (λ c. Facts (meaning field.now) (design_of c)) }
-        ensures exponents_smallest { sound field.now → Smallest (meaning field.now) design }
+        ensures answer { F.sound field.now → result_map_both design_of (λ fault. fault) result ≡ opening (F.meaning field.now) design }
+        ensures opened { F.sound field.now → IfOk result (Opened (F.meaning field.now)) }
+        ensures facts { F.sound field.now → IfOk result (λ c. Facts (F.meaning field.now) (design_of c)) }
+        ensures exponents_smallest { F.sound field.now → Smallest (F.meaning field.now) design }
     {
         let order = field.order().min(MOST_ORDER);
         if !is_length(design.length, order) {

@@ -6,7 +6,7 @@ use Rattle.console.proofs.lines.powers.Goals as goal
 pub loop-i-preserved : goal.loop-i-preserved
 loop-i-preserved g c s =
     let A = g.F.Field.meaning c.args.field.now in
-    let i = c.loop-i.-i in
+    let i = c.loop-i._i in
     let was = c.loop-i.invariant s in
     let items = c.in_ok-push.ensures.items in (
       c.mul-power.ensures s ∙ ap₂ A.mul (c.root-root.ensures s) was.0 ∙ ap (power A.mul A.root) (sym (add-one i)),

@@ -12,7 +12,7 @@ pub returns-in_err-judge : goal.returns-in_err-judge
 returns-in_err-judge g c =
     let A = g.F.Field.meaning c.args.field.now in
     let D = c.args.self.now.design in
-    let p = err_from_is_err_and c.from-residual.result c.from-residual.ensures.1 in
+    let p = err_from_is_err_and c.from_residual.result c.from_residual.ensures.1 in
     rw (p.1, p.2)
     (record {
       answer = λ s o.
