@@ -6,14 +6,16 @@ use console::Desk;
 use std::env;
 use std::fs::File;
 use std::io::{BufRead, BufReader, Read};
+use std::process::ExitCode;
 
 // Answers every line of the standard input, or of the file that the one argument names.
-fn main(rt: HostRuntime) -> anyhow::Result<()> {
+fn main(rt: HostRuntime) -> ExitCode {
     match run(&rt) {
-        Ok(()) => Ok(()),
+        Ok(()) => ExitCode::SUCCESS,
         Err(error) => {
-            eprintln!(rt; "tagdesk: {error}")?;
-            Err(error)
+            // If this cannot be written either, the status still tells.
+            let _ = eprintln!(rt; "tagdesk: {error}");
+            ExitCode::FAILURE
         }
     }
 }
