@@ -4,7 +4,7 @@ use mathlib.Core.HLevel.{is_prop→PathP}
 use mathlib.Core.List.{map-append}
 use lib.Dec.{T_prop}
 use lib.ListN.{length-map}
-use Rattle.std.specs.List.{AllByRecursion as All}
+use Rattle.std.specs.List.{AllByRecursion}
 use Rattle.algebra.specs.Arith.{Arith, Ring, power}
 use Rattle.algebra.specs.Abstract.{Ops, RingLaws}
 use Rattle.algebra.specs.Words.{pow, value, less, remainder, times_factor, times_factors, factors}
@@ -31,7 +31,7 @@ module _ {A : Arith} where
   codes w = map (λ x. x.code) w
 
   -- a word of codes is one of elements
-  pub with_codes : (w : List ℕ) → All (λ c. c < A.size) w → (W : List (Element A)) × (codes W ≡ w)
+  pub with_codes : (w : List ℕ) → AllByRecursion (λ c. c < A.size) w → (W : List (Element A)) × (codes W ≡ w)
   with_codes [] h = ([], refl)
   with_codes (c ∷ w) h = let t = with_codes w h.1 in (element c h.0 ∷ t.0, ap (λ l. c ∷ l) t.1)
 

@@ -2,7 +2,7 @@
 use Rattle.std.proofs.Common.{◌≡◌, ℕ, zero, suc, ◌+◌, ◌*◌, ◌/◌, ◌%◌, ◌<◌, List, ◌++◌, map, length, drop, replicate, sym, ap, ◌∙◌, subst, suc-mul, zero-mul, arith, length-append, length-drop}
 use native.Mathlib.Nat.{mod-add-div'}
 use lib.ListN.{length-map}
-use Rattle.std.specs.List.{range_with_len, AllByRecursion as All}
+use Rattle.std.specs.List.{range_with_len, AllByRecursion}
 use Rattle.std.proofs.ByRecursion.{All-weaker, All-map, All-append, All-drop}
 use Rattle.std.proofs.lemmas.List.{take_at}
 use Rattle.algebra.specs.Arith.{Arith, Laws}
@@ -83,7 +83,7 @@ module _ (A : Arith) (L : Laws A) where
         ∙ sym (code_value A R (encoded_elements M) x)
         ∙ ap (λ v. v.code) (value_divided (elements_ring A R) M (generator_tail A L D) x (tail_root A L D e ((exponents_smallest A L D).run_in j l)))
 
-    encoded_symbols : Accepted A D → (message : List ℕ) → All (λ x. x < symbols A D.alphabet) message → All (λ x. x < symbols A D.alphabet) (encoded A D message)
+    encoded_symbols : Accepted A D → (message : List ℕ) → AllByRecursion (λ x. x < symbols A D.alphabet) message → AllByRecursion (λ x. x < symbols A D.alphabet) (encoded A D message)
     unfolding encoded
     encoded_symbols a message h =
         let s = D.alphabet in

@@ -1,6 +1,6 @@
 -- The exponent set is the smallest one that holds the run and, for the ground alphabet, the conjugates.
 use Rattle.std.proofs.Common.{◌≡◌, ℕ, zero, suc, ◌+◌, ◌-◌, ◌%◌, ◌<◌, Bool, true, false, cond, T, eqb, List, [], ◌∷◌, filter, sym, refl, ap, ◌∙◌, subst, inl, inr, mod-lt, arith}
-use Rattle.std.specs.List.{range_with_len, AllByRecursion as All}
+use Rattle.std.specs.List.{range_with_len, AllByRecursion}
 use Rattle.std.proofs.ByRecursion.{All-weaker, All-map, all_kept_by, kept_by_passes}
 use Rattle.std.proofs.lemmas.Bool.{cases_Bool, cases_lt, cases_order, both_ways}
 use Rattle.algebra.specs.Arith.{Arith, Laws, iterate}
@@ -17,7 +17,7 @@ counting_rising : (a n : ℕ) → Rising (range_with_len a n)
 counting_rising a zero = tt
 counting_rising a (suc n) = (from (a + 1) n (omega arith), counting_rising (a + 1) n)
   where
-    from : (c k : ℕ) → a < c → All (λ y. a < y) (range_with_len c k)
+    from : (c k : ℕ) → a < c → AllByRecursion (λ y. a < y) (range_with_len c k)
     from c zero l = tt
     from c (suc k) l = (l, from (c + 1) k (omega arith))
 
@@ -47,7 +47,7 @@ module _ (step : ℕ → ℕ) where
   orbit-member (suc k) e x (inl h) = (0, omega arith, h)
   orbit-member (suc k) e x (inr m) = let r = orbit-member k (step e) x m in (suc r.0, omega arith, r.2 ∙ iterate_first step r.0 e)
 
-  orbit_set : (set : ℕ → Bool) → ((e : ℕ) → T (set e) → T (set (step e))) → (k e : ℕ) → T (set e) → All (λ x. T (set x)) (orbit step e k)
+  orbit_set : (set : ℕ → Bool) → ((e : ℕ) → T (set e) → T (set (step e))) → (k e : ℕ) → T (set e) → AllByRecursion (λ x. T (set x)) (orbit step e k)
   orbit_set set h zero e t = tt
   orbit_set set h (suc k) e t = (t, orbit_set set h k (step e) (h e t))
 
@@ -100,7 +100,7 @@ module _ (A : Arith) (L : Laws A) (D : Design) where
   abbrev Closed : Alphabet → (ℕ → Bool) → Type 0
   Closed s set = s ≡ Ground → (e : ℕ) → T (set e) → T (set (conjugate A e))
 
-  all-run : (P : ℕ → Type 0) → ((i : ℕ) → i < D.distance - 1 → P ((D.first + i) % A.order)) → All P (run A D)
+  all-run : (P : ℕ → Type 0) → ((i : ℕ) → i < D.distance - 1 → P ((D.first + i) % A.order)) → AllByRecursion P (run A D)
   all-run P h = All-map P (λ i. (D.first + i) % A.order) (range_with_len 0 (D.distance - 1)) (all-counting _ (D.distance - 1) h)
 
   member-run : (i : ℕ) → i < D.distance - 1 → Member ((D.first + i) % A.order) (run A D)
@@ -120,7 +120,7 @@ module _ (A : Arith) (L : Laws A) (D : Design) where
       let l : r.0 < A.order = member-all (λ e. e < A.order) r.0 (run A D) (all-run (λ e. e < A.order) (λ i _. modulo-order (D.first + i))) r.1 in
       member-joined round r.0 (conjugate A e) (run A D) r.1 (orbit_closed (conjugate A) A.order r.0 l (λ x. modulo-order _) e r.2)
 
-  reached_least : (s : Alphabet) (set : ℕ → Bool) → HoldsRun set → Closed s set → All (λ e. T (set e)) (reached A s (run A D))
+  reached_least : (s : Alphabet) (set : ℕ → Bool) → HoldsRun set → Closed s set → AllByRecursion (λ e. T (set e)) (reached A s (run A D))
   reached_least Whole set h k = all-run (λ e. T (set e)) h
   reached_least Ground set h k =
       all-joined round (λ e. T (set e)) (λ e. T (set e)) (λ e t. orbit_set (conjugate A) set (k refl) A.order e t) (run A D) (all-run (λ e. T (set e)) h)
@@ -135,7 +135,7 @@ module _ (A : Arith) (L : Laws A) (D : Design) where
   unfolding exponents
   reached_exponent e l t = member-kept in_set e (range_with_len 0 A.order) (member-counting 0 A.order e (omega arith) (omega arith)) t
 
-  exponents_reached : All (λ e. in_set e ≡ true) (exponents A D)
+  exponents_reached : AllByRecursion (λ e. in_set e ≡ true) (exponents A D)
   unfolding exponents
   exponents_reached = kept_by_passes in_set (range_with_len 0 A.order)
 

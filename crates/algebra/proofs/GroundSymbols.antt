@@ -1,6 +1,6 @@
 -- Each alphabet has 0 and is closed under sums, negatives and products, and so under division.
 use Rattle.std.proofs.Common.{◌≡◌, ℕ, zero, suc, ◌+◌, ◌-◌, ◌<◌, ◌≤◌, List, [], ◌∷◌, map, replicate, sym, ap, ◌∙◌, subst, inl, inr, arith}
-use Rattle.std.specs.List.{AllByRecursion as All}
+use Rattle.std.specs.List.{AllByRecursion}
 use Rattle.std.proofs.ByRecursion.{All-weaker, All-map}
 use Rattle.std.proofs.lemmas.Bool.{cases_lt}
 use Rattle.algebra.specs.Arith.{Arith, Laws}
@@ -81,7 +81,7 @@ module _ (A : Arith) (L : Laws A) where
 
   module _ (s : Alphabet) where
     abbrev Symbols : List ℕ → Type 0
-    Symbols w = All (λ x. x < symbols A s) w
+    Symbols w = AllByRecursion (λ x. x < symbols A s) w
 
     symbols_less : (a : ℕ) (w v : List ℕ) → a < symbols A s → Symbols w → Symbols v → Symbols (less (ops A) a w v)
     symbols_less a [] v ha hw hv = tt

@@ -1,6 +1,6 @@
 -- Horner's rule gives a word's value.
 use Rattle.std.proofs.Common.{◌≡◌, ℕ, ◌<◌, List, [], ◌∷◌, length, sym, refl, ap, ◌∙◌}
-use Rattle.std.specs.List.{AllByRecursion as All}
+use Rattle.std.specs.List.{AllByRecursion}
 use Rattle.algebra.specs.Arith.{Arith, Laws}
 use Rattle.algebra.specs.Words.{pow, value}
 use Rattle.algebra.specs.BlockCode.{ops}
@@ -18,7 +18,7 @@ module _ (A : Arith) (L : Laws A) where
   value_code [] x = zero_code A L.ring
   value_code (c ∷ w) x = L.ring.add_code _ _
 
-  pub horner_value : (x c : ℕ) (w : List ℕ) → x < A.size → All (λ s. s < A.size) (c ∷ w) → horner A x c w ≡ value (ops A) (c ∷ w) x
+  pub horner_value : (x c : ℕ) (w : List ℕ) → x < A.size → AllByRecursion (λ s. s < A.size) (c ∷ w) → horner A x c w ≡ value (ops A) (c ∷ w) x
   horner_value x c [] hx h = sym (L.ring.add-zero (A.mul c 1) (L.ring.mul_code c 1) ∙ L.ring.mul-one c h.0)
   horner_value x c (d ∷ w) hx h =
       horner_value x (A.add (A.mul c x) d) w hx (L.ring.add_code _ d, h.1.1)

@@ -1,12 +1,12 @@
 -- Membership in a list: of what is mapped, joined, counted or kept, and the place of a member.
 use Rattle.std.proofs.Common.{◌≡◌, ℕ, zero, suc, ◌+◌, ◌<◌, ◌≤◌, Bool, true, false, cond, eqb, ◌⊎◌, List, [], ◌∷◌, ◌++◌, map, length, get_or, filter, sym, refl, ap, ◌∙◌, subst, inl, inr, arith}
-use Rattle.std.specs.List.{range_with_len, flat_map, AllByRecursion as All}
+use Rattle.std.specs.List.{range_with_len, flat_map, AllByRecursion}
 use Rattle.std.proofs.ByRecursion.{All-append}
 use Rattle.std.proofs.lemmas.Bool.{cases_eq, or_cases, or_left, or_right, eqb-true, eq-eqb, false≢true}
 use Rattle.algebra.specs.BlockCode.{some_of}
 use Rattle.algebra.specs.BlockCodeLaws.{Member}
 
-pub member-all : (P : ℕ → Type 0) (x : ℕ) (xs : List ℕ) → All P xs → Member x xs → P x
+pub member-all : (P : ℕ → Type 0) (x : ℕ) (xs : List ℕ) → AllByRecursion P xs → Member x xs → P x
 member-all P x [] h m = absurd m
 member-all P x (y ∷ ys) h (inl e) = subst P (sym e) h.0
 member-all P x (y ∷ ys) h (inr m) = member-all P x ys h.1 m
@@ -40,7 +40,7 @@ module _ (f : ℕ → List ℕ) where
   joined-member y [] m = absurd m
   joined-member y (x ∷ xs) m = elim (member-append y (f x) (flat_map f xs) m) [ inl h ↦ (x, inl refl, h) | inr h ↦ let r = joined-member y xs h in (r.0, inr r.1, r.2) ]
 
-  pub all-joined : (P Q : ℕ → Type 0) → ((x : ℕ) → Q x → All P (f x)) → (xs : List ℕ) → All Q xs → All P (flat_map f xs)
+  pub all-joined : (P Q : ℕ → Type 0) → ((x : ℕ) → Q x → AllByRecursion P (f x)) → (xs : List ℕ) → AllByRecursion Q xs → AllByRecursion P (flat_map f xs)
   all-joined P Q h [] q = tt
   all-joined P Q h (x ∷ xs) q = All-append P (f x) (flat_map f xs) (h x q.0) (all-joined P Q h xs q.1)
 
@@ -49,10 +49,10 @@ member-counting a zero x l h = absurd (omega arith)
 member-counting a (suc n) x l h = elim (cases_eq x a) [ inl e ↦ inl e | inr ne ↦ inr (member-counting (a + 1) n x (omega arith) (omega arith)) ]
 
 -- what holds of all numbers below n holds of those counted
-pub all-counting : (P : ℕ → Type 0) (n : ℕ) → ((x : ℕ) → x < n → P x) → All P (range_with_len 0 n)
+pub all-counting : (P : ℕ → Type 0) (n : ℕ) → ((x : ℕ) → x < n → P x) → AllByRecursion P (range_with_len 0 n)
 all-counting P n h = from 0 n (λ x l. h x (omega arith))
   where
-    from : (a k : ℕ) → ((x : ℕ) → x < a + k → P x) → All P (range_with_len a k)
+    from : (a k : ℕ) → ((x : ℕ) → x < a + k → P x) → AllByRecursion P (range_with_len a k)
     from a zero g = tt
     from a (suc k) g = (g a (omega arith), from (a + 1) k (λ x l. g x (omega arith)))
 
@@ -66,7 +66,7 @@ member-kept test x (y ∷ xs) (inr m) t = go (test y) (member-kept test x xs m t
     go false h = h
 
 -- tests that agree keep the same
-pub kept_same : (s t : ℕ → Bool) (xs : List ℕ) → All (λ x. s x ≡ t x) xs → filter s xs ≡ filter t xs
+pub kept_same : (s t : ℕ → Bool) (xs : List ℕ) → AllByRecursion (λ x. s x ≡ t x) xs → filter s xs ≡ filter t xs
 kept_same s t [] h = refl
 kept_same s t (x ∷ xs) h = λ i. cond (h.0 i) (x ∷ kept_same s t xs h.1 i) (kept_same s t xs h.1 i)
 

@@ -1,6 +1,6 @@
 -- The value of a word by Horner's rule, and check values one point after the other.
 use Rattle.std.proofs.Common.{◌≡◌, ℕ, ◌+◌, ◌<◌, ◌≤◌, List, [], ◌∷◌, ◌++◌, map, length, get_or, take, drop, set, sym, refl, ap, ◌∙◌, ap₂, add_assoc, add-one, arith}
-use Rattle.std.specs.List.{range_with_len, AllByRecursion as All}
+use Rattle.std.specs.List.{range_with_len, AllByRecursion}
 use Rattle.std.proofs.lemmas.List.FromFn.{map-range_with_len_more}
 use Rattle.std.proofs.lemmas.List.{take_more_set, drop_more, drop_all}
 use Rattle.algebra.specs.Arith.{Arith, Laws}
@@ -18,7 +18,7 @@ module _ (A : Arith) (x : ℕ) where
   value_of_none [] e = refl
   value_of_none (c ∷ w) e = absurd (omega arith)
 
-  pub value_by_horner : Laws A → (w : List ℕ) (i sum : ℕ) → (length w ≡ 0 → ⊥) → length w ≤ i → x < A.size → All (λ s. s < A.size) w
+  pub value_by_horner : Laws A → (w : List ℕ) (i sum : ℕ) → (length w ≡ 0 → ⊥) → length w ≤ i → x < A.size → AllByRecursion (λ s. s < A.size) w
       → horner A x sum (drop i w) ≡ horner A x (get_or w 0 0) (drop 1 w) → sum ≡ value (ops A) w x
   value_by_horner L [] i sum some end hx all e = absurd (some refl)
   value_by_horner L (c ∷ w) i sum some end hx all e = ap (horner A x sum) (sym (drop_all i (c ∷ w) end)) ∙ e ∙ horner_value A L x c w hx all

@@ -4,7 +4,7 @@ use Rattle.std.specs.Result.{result_map_both}
 use Rattle.algebra.specs.Arith.{Arith}
 use Rattle.algebra.specs.BlockCode.{symbols, redundancy, generator}
 use Rattle.algebra.specs.declared.Design.{Design}
-use Rattle.field.specs.Opening.{refuse, opening as field-opening}
+use Rattle.field.specs.Opening.{refuse, opening as field_opening}
 use Rattle.field.specs.declared.fault.FieldFault.{FieldFault}
 use Rattle.code.specs.Calls.{outside}
 use Rattle.code.specs.declared.fault.CodeFault.{CodeFault}
@@ -38,4 +38,4 @@ after (Err fault) next = Err (Field fault)
 
 -- a binary field, and a code over it
 abbrev pub binary_opening : ℕ → ℕ → Design → Result (Arith × Design) CodeFault
-binary_opening m P D = after (field-opening m P) (λ A. result_map_both (λ accepted. (A, accepted)) (λ fault. fault) (opening A D))
+binary_opening m P D = after (field_opening m P) (λ A. result_map_both (λ accepted. (A, accepted)) (λ fault. fault) (opening A D))

@@ -6,8 +6,8 @@ use Rattle.algebra.specs.Codes.{modulo}
 use Rattle.algebra.specs.declared.Alphabet.{Alphabet}
 use Rattle.algebra.specs.declared.Alphabet.TheVariants.{Whole, Ground}
 use Rattle.algebra.specs.declared.Design.{Design}
-use Rattle.field.specs.Opening.{opening as field-opening}
-use Rattle.code.specs.Opening.{opening as code-opening}
+use Rattle.field.specs.Opening.{opening as field_opening}
+use Rattle.code.specs.Opening.{opening as code_opening}
 
 abbrev same : List ℕ → List ℕ → Bool
 same [] [] = true
@@ -22,7 +22,7 @@ opens (Err fault) test = false
 
 -- the code with this alphabet, length n, first exponent b and distance δ
 abbrev opens_code : Arith → Alphabet → ℕ → ℕ → ℕ → (Design → Bool) → Bool
-opens_code A a n b δ = opens (code-opening A (record { alphabet = a; length = n; first = b; distance = δ }))
+opens_code A a n b δ = opens (code_opening A (record { alphabet = a; length = n; first = b; distance = δ }))
 
 abbrev examples_of_8 : Arith → Bool
 examples_of_8 A =
@@ -33,6 +33,6 @@ examples_of_8 A =
 
 abbrev pub code_examples : Bool
 code_examples =
-    opens (field-opening 3 11) examples_of_8
+    opens (field_opening 3 11) examples_of_8
     -- the remainder is subtracted: added, it would give 1 12 902
     && opens_code (modulo 929 3) Whole 3 1 3 (λ D. same (encoded (modulo 929 3) D (1 ∷ [])) (1 ∷ 917 ∷ 27 ∷ []))

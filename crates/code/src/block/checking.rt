@@ -1,7 +1,7 @@
 // Check values: the values of a word at the points where every codeword is 0.
 ghost use Rattle.std.specs.Prelude.{◌≡◌, ◌-◌, ◌<◌, length, OnErr};
 ghost use Rattle.std.specs.Result.{result_map_both};
-ghost use Rattle.std.specs.List.{AllByRecursion as All};
+ghost use Rattle.std.specs.List.{AllByRecursion};
 ghost use Rattle.algebra.specs.BlockCode.{check_count, check_values};
 ghost use Rattle.algebra.specs.BlockCodeLaws.{ChecksTellCodewords};
 ghost use Rattle.code.specs.Calls.{checking};
@@ -34,7 +34,7 @@ impl Code {
 
     // Fills the list with check values, one point after the other.
     fn write_check_values<F: Field>(&self, field: &F, word: &[u16], list: &mut [u16])
-        ensures { F.sound field.now → Opened (F.meaning field.now) self.now → All (λ s. s < (F.meaning field.now).size) word.now → length list.old ≡ check_count (F.meaning field.now) (design_of self.now) → list.new ≡ check_values (F.meaning field.now) (design_of self.now) word.now }
+        ensures { F.sound field.now → Opened (F.meaning field.now) self.now → AllByRecursion (λ s. s < (F.meaning field.now).size) word.now → length list.old ≡ check_count (F.meaning field.now) (design_of self.now) → list.new ≡ check_values (F.meaning field.now) (design_of self.now) word.now }
     {
         let root = field.root();
         let mut point = self.start;
