@@ -3,7 +3,7 @@
 
 usage: tools/respell.py [FOLDER]     FOLDER is the top of a checkout on which the kit's port.py has run; default: here
 
-Definitions and fields are in snake case, facts and types in camel case; in a lemma's name a dash joins two names.
+Definitions and fields are in snake case, facts and types in camel case; in the name of a lemma or a law a dash joins two names.
 Functions of src/, strings, inputs and outputs keep theirs. A second run changes nothing."""
 
 import os

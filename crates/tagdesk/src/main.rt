@@ -1,7 +1,6 @@
 //! The console: reads commands, a line each, and answers each with one line.
 #![tactic(auto)]
 
-use anyhow::anyhow;
 use console::Desk;
 use std::env;
 use std::fs::File;
@@ -11,7 +10,7 @@ use std::process::ExitCode;
 // Answers every line of the standard input, or of the file that the one argument names.
 fn main(rt: HostRuntime) -> ExitCode {
     match run(&rt) {
-        Ok(()) => ExitCode::SUCCESS,
+        Ok(code) => code,
         Err(error) => {
             // If this cannot be written either, the status still tells.
             let _ = eprintln!(rt; "tagdesk: {error}");
@@ -20,12 +19,13 @@ fn main(rt: HostRuntime) -> ExitCode {
     }
 }
 
-fn run(rt: &HostRuntime) -> anyhow::Result<()> {
+fn run(rt: &HostRuntime) -> anyhow::Result<ExitCode> {
     let mut args = env::args(rt)?;
     let _program = args.next();
     let file = args.next();
     if args.next().is_some() {
-        return Err(anyhow!("usage: tagdesk [FILE]"));
+        eprintln!(rt; "tagdesk: usage: tagdesk [FILE]")?;
+        return Ok(ExitCode::FAILURE);
     }
     match file {
         Some(path) => serve_file(rt, path.as_str()),
@@ -33,14 +33,18 @@ fn run(rt: &HostRuntime) -> anyhow::Result<()> {
     }
 }
 
-fn serve_file(rt: &HostRuntime, path: &str) -> anyhow::Result<()> {
+fn serve_file(rt: &HostRuntime, path: &str) -> anyhow::Result<ExitCode> {
     match File::open(rt, path) {
         Ok(file) => serve(rt, BufReader::new(rt.alloc(), file)?),
-        Err(error) => Err(anyhow!(format!(in rt.alloc(); "cannot open {path}: {error}")?)),
+        Err(error) => {
+            // Printed here, since an `anyhow::Error` would cut the name of a long path.
+            eprintln!(rt; "tagdesk: cannot open {path}: {error}")?;
+            Ok(ExitCode::FAILURE)
+        }
     }
 }
 
-fn serve<R: Read + Drop>(rt: &HostRuntime, mut input: BufReader<R>) -> anyhow::Result<()> {
+fn serve<R: Read + Drop>(rt: &HostRuntime, mut input: BufReader<R>) -> anyhow::Result<ExitCode> {
     let heap = rt.alloc();
     let mut desk = Desk::new();
     for number in 1..u64::MAX {
@@ -52,5 +56,5 @@ fn serve<R: Read + Drop>(rt: &HostRuntime, mut input: BufReader<R>) -> anyhow::R
             rt.println(answer)?;
         }
     }
-    Ok(())
+    Ok(ExitCode::SUCCESS)
 }
