@@ -41,7 +41,7 @@ module _ (A : Arith) (R : Ring A) where
         ap (power A.mul a) s ∙ ap (λ x. power A.mul x A.order) (sym at.2) ∙ power_full at.0
 
     -- a ^ (size - 2) is the inverse of a, the exponent as a program has it
-    pub inverse_by_power : (a q : ℕ) → a < A.size → q ≡ A.size → power A.mul a (q - 2) ≡ inverse A.size A.mul a
+    inverse_by_power : (a q : ℕ) → a < A.size → q ≡ A.size → power A.mul a (q - 2) ≡ inverse A.size A.mul a
     inverse_by_power a q ha e =
         ap (λ n. power A.mul a (n - 2)) e
         ∙ elim (cases_eq a 0) [
@@ -73,3 +73,19 @@ module _ (A : Arith) (R : Ring A) where
           root_different = different (A.mul A.root) A.order ret;
           root_order = ret.1;
         }
+
+-- the same of any field by its laws: where the root's powers are all codes but 0, inverses are powers
+pub inverse_is_power : (A : Arith) → Laws A → suc A.order ≡ A.size → (a q : ℕ) → a < A.size → q ≡ A.size → power A.mul a (q - 2) ≡ A.inv a
+inverse_is_power A L full a q ha e = inverse_by_power A L.ring full ret a q ha e ∙ only
+  where
+    ret : Returns (A.mul A.root) A.order
+    ret =
+        let low = L.order_low in
+        (omega arith, L.root_order, λ k pos h one. let same = L.root_different k 0 h (omega arith) one in omega arith)
+
+    only : inverse A.size A.mul a ≡ A.inv a
+    only =
+        elim (cases_eq a 0) [
+          | inl z ↦ ap (inverse A.size A.mul) z ∙ no_inverse A L.ring 0 (zero-mul A L.ring) ∙ sym (ap A.inv z ∙ L.inv-zero)
+          | inr ne ↦ inverse_is A L.ring a (A.inv a) (L.inv_code a) (L.mul-inv a ha ne)
+        ]

@@ -1,6 +1,6 @@
 -- Horner's rule gives a word's value.
 use Rattle.std.proofs.Common.{◌≡◌, ℕ, ◌<◌, List, [], ◌∷◌, length, sym, refl, ap, ◌∙◌}
-use Rattle.std.specs.List.{AllByRecursion}
+use Rattle.std.specs.List.{AllByRecursion, fold}
 use Rattle.algebra.specs.Arith.{Arith, Laws}
 use Rattle.algebra.specs.Words.{pow, value}
 use Rattle.algebra.specs.BlockCode.{ops}
@@ -10,8 +10,7 @@ use Rattle.algebra.proofs.RingSolver.{◌:+◌, ◌:*◌, solve5}
 
 -- the symbols of w come in after `sum`, which is multiplied by x each time
 abbrev pub horner : Arith → ℕ → ℕ → List ℕ → ℕ
-horner A x sum [] = sum
-horner A x sum (c ∷ w) = horner A x (A.add (A.mul sum x) c) w
+horner A x sum w = fold (λ s c. A.add (A.mul s x) c) sum w
 
 module _ (A : Arith) (L : Laws A) where
   value_code : (w : List ℕ) (x : ℕ) → value (ops A) w x < A.size

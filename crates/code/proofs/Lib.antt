@@ -1,10 +1,7 @@
-pub mod InPlace
 pub mod Outside
 pub mod Dividing
 pub mod Marking
 pub mod Generating
 pub mod ExponentMarks
-pub mod CodeOpenings
-pub mod Judged
 pub mod EncodesInPlace
 pub mod Valuing

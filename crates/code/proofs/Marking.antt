@@ -1,31 +1,14 @@
--- Marking a set of numbers: an orbit after the other, and the list of what is marked.
-use Rattle.std.proofs.Common.{◌≡◌, ℕ, zero, suc, ◌+◌, ◌%◌, ◌<◌, ◌≤◌, Bool, true, false, cond, T, ◌⊎◌, List, [], ◌∷◌, ◌++◌, length, take, set, replicate, filter, sym, refl, ap, ◌∙◌, subst, inl, inr, mod-lt, arith, below_more}
-use Rattle.std.specs.List.{range_with_len}
-use Rattle.std.proofs.lemmas.List.FromFn.{filter_of_map_range_with_len_more}
-use Rattle.std.proofs.lemmas.List.{append-nil, map-id, get_or-set_same, get_or-set_other, length-set, length_push, take_more_set}
+-- Marking a set of numbers, an orbit after the other, and writing them to a list.
+use Rattle.std.proofs.Common.{◌≡◌, ℕ, zero, suc, ◌+◌, ◌%◌, ◌<◌, ◌≤◌, Bool, true, false, T, ◌⊎◌, List, [], ◌∷◌, length, take, set, replicate, map, sym, refl, ap, ◌∙◌, subst, inl, inr, mod-lt, arith, below_more}
+use Rattle.std.specs.List.{enumerate_from}
+use Rattle.std.proofs.lemmas.List.FromFn.{length-enumerate_from}
+use Rattle.std.proofs.lemmas.List.{map-id, take_all, get_or-set_same, get_or-set_other}
 use Rattle.std.proofs.lemmas.Bool.{cases_eq}
 use Rattle.code.specs.Marks.{marked, step, Within, Closed, MarkedRun}
 
--- how many numbers are not marked
-abbrev pub unmarked : List Bool → ℕ
-unmarked [] = 0
-unmarked (true ∷ marks) = unmarked marks
-unmarked (false ∷ marks) = suc (unmarked marks)
-
--- each mark leaves one less
-pub unmarked_falls : (marks : List Bool) (e : ℕ) → e < length marks → marked marks e ≡ false → unmarked (set marks e true) < unmarked marks
-unmarked_falls [] e h f = absurd (omega arith)
-unmarked_falls (true ∷ marks) zero h f = let z : ◌≡◌ {A = ℕ} 0 1 = cc in absurd (omega arith)
-unmarked_falls (false ∷ marks) zero h f = omega arith
-unmarked_falls (true ∷ marks) (suc e) h f = unmarked_falls marks e (omega arith) f
-unmarked_falls (false ∷ marks) (suc e) h f = let l = unmarked_falls marks e (omega arith) f in omega arith
-
-holds : (b : Bool) → b ≡ true → T b
-holds b e = subst T (sym e) tt
-
 -- what is marked after e was marked
 mark_here : (marks : List Bool) (e : ℕ) → e < length marks → T (marked (set marks e true) e)
-mark_here marks e h = holds _ (get_or-set_same marks e true false h)
+mark_here marks e h = subst T (sym (get_or-set_same marks e true false h)) tt
 
 mark_kept : (marks : List Bool) (e : ℕ) → e < length marks → Within (marked marks) (marked (set marks e true))
 mark_kept marks e h x t =
@@ -45,9 +28,6 @@ module _ (order factor : ℕ) where
     pub started : T (marked marks start) ⊎ (e ≡ start)
     pub closed : Closed (step order factor) (marked entry) → (x : ℕ) → T (marked marks x) → T (marked marks (step order factor x)) ⊎ (step order factor x ≡ e)
     pub least : (set : ℕ → Bool) → Closed (step order factor) set → T (set start) → Within (marked entry) set → Within (marked marks) set × T (set e)
-
-  pub orbit_begins : (marks : List Bool) (start : ℕ) → start < order → Orbit marks marks start start
-  orbit_begins marks start h = record { inside = h; kept = λ e t. t; started = inr refl; closed = λ c x t. inl (c x t); least = λ s c t w. (w, t) }
 
   pub orbit_goes_on : (entry marks : List Bool) (start e : ℕ) → order ≤ length marks → Orbit entry marks start e → Orbit entry (set marks e true) start (step order factor e)
   orbit_goes_on entry marks start e fits o =
@@ -71,13 +51,6 @@ module _ (order factor : ℕ) where
             let was = o.least s c t w in
             (λ x u. elim (mark_back marks e x u) [ inl same ↦ subst (λ y. T (s y)) (sym same) was.1 | inr old ↦ was.0 x old ], c e was.1);
       }
-
-  module _ (entry marks : List Bool) (start e : ℕ) (o : Orbit entry marks start e) (met : marked marks e ≡ true) where
-    pub orbit_started : T (marked marks start)
-    orbit_started = elim o.started [ inl t ↦ t | inr same ↦ subst (λ y. T (marked marks y)) same (holds _ met) ]
-
-    pub orbit_closed : Closed (step order factor) (marked entry) → Closed (step order factor) (marked marks)
-    orbit_closed c x t = elim (o.closed c x t) [ inl u ↦ u | inr here ↦ subst (λ y. T (marked marks y)) (sym here) (holds _ met) ]
 
 -- nothing is marked at first
 none_marked : (n e : ℕ) → T (marked (replicate n false) e) → ⊥
@@ -106,37 +79,14 @@ module _ (order factor first : ℕ) where
     least = λ s h c. least s c (h i (omega arith)) (m.least s (λ k l. h k (omega arith)) c);
   }
 
--- one more number is looked at
-kept_more : (test : ℕ → Bool) (i : ℕ) → filter test (range_with_len 0 (i + 1)) ≡ filter test (range_with_len 0 i) ++ cond (test i) (i ∷ []) []
-kept_more test i =
-    ap (filter test) (sym (map-id (range_with_len 0 (i + 1)))) ∙ filter_of_map_range_with_len_more test (λ x. x) 0 i i (omega arith)
-    ∙ ap (λ ns. filter test ns ++ cond (test i) (i ∷ []) []) (map-id (range_with_len 0 i))
+-- a list's elements, from their pairs with their places
+without_places : (n : ℕ) (xs : List ℕ) → map (λ p. p.1) (enumerate_from n xs) ≡ xs
+without_places n [] = refl
+without_places n (x ∷ xs) = ap (λ ys. x ∷ ys) (without_places (n + 1) xs)
 
--- the numbers below i that are marked: how many they are, and that they stand in the list as far as it goes
-pub record Listed (marks : List Bool) (i count : ℕ) (list : List ℕ) : Type 0 where
-  pub few : count ≤ i
-  pub counted : count ≡ length (filter (marked marks) (range_with_len 0 i))
-  pub listed : count ≤ length list → take count list ≡ filter (marked marks) (range_with_len 0 i)
-
-pub passed_over : (marks : List Bool) (i count : ℕ) (list : List ℕ) → Listed marks i count list → marked marks i ≡ false → Listed marks (i + 1) count list
-passed_over marks i count list l f =
-    let same : filter (marked marks) (range_with_len 0 (i + 1)) ≡ filter (marked marks) (range_with_len 0 i) =
-    kept_more (marked marks) i ∙ ap (λ t. filter (marked marks) (range_with_len 0 i) ++ cond t (i ∷ []) []) f ∙ append-nil _ in
-    let few = l.few in
-    record { few = omega arith; counted = l.counted ∙ ap length (sym same); listed = λ h. l.listed h ∙ sym same }
-
-pub taken_up : (marks : List Bool) (i count : ℕ) (list : List ℕ) → Listed marks i count list → marked marks i ≡ true → Listed marks (i + 1) (count + 1) (set list count i)
-taken_up marks i count list l t =
-    let more : filter (marked marks) (range_with_len 0 (i + 1)) ≡ filter (marked marks) (range_with_len 0 i) ++ (i ∷ []) =
-    kept_more (marked marks) i ∙ ap (λ b. filter (marked marks) (range_with_len 0 i) ++ cond b (i ∷ []) []) t in
-    let few = l.few in
-    record {
-      few = omega arith;
-      counted = ap (λ n. n + 1) l.counted ∙ sym (ap length more ∙ length_push (filter (marked marks) (range_with_len 0 i)) i);
-      listed = λ h.
-          let size = length-set list count i in
-          take_more_set list count i (omega arith) ∙ ap (λ done. done ++ (i ∷ [])) (l.listed (omega arith)) ∙ sym more;
-    }
-
-pub same_listed : (marks : List Bool) (i count next : ℕ) (list after : List ℕ) → next ≡ count → after ≡ list → Listed marks i count list → Listed marks i next after
-same_listed marks i count next list after e f l = subst (λ n. Listed marks i n after) (sym e) (subst (Listed marks i count) (sym f) l)
+-- what was found stands at the front of the list, which has places enough, once each was written to its place
+pub all_written : (found list : List ℕ) (places : ℕ) (written : List (ℕ × ℕ)) → length found ≤ places → map (λ p. p) written ≡ enumerate_from 0 (take places found)
+    → take (length written) list ≡ map (λ p. p.1) written → take (length found) list ≡ found
+all_written found list places written fits each front =
+    let all : written ≡ enumerate_from 0 found = sym (map-id written) ∙ each ∙ ap (enumerate_from 0) (take_all places found fits) in
+    ap (λ n. take n list) (sym (ap length all ∙ length-enumerate_from 0 found)) ∙ front ∙ ap (map (λ p. p.1)) all ∙ without_places 0 found

@@ -1,27 +1,11 @@
--- The value of a word by Horner's rule, and check values one point after the other.
-use Rattle.std.proofs.Common.{◌≡◌, ℕ, ◌+◌, ◌<◌, ◌≤◌, List, [], ◌∷◌, ◌++◌, map, length, get_or, take, drop, set, sym, refl, ap, ◌∙◌, ap₂, add_assoc, add-one, arith}
-use Rattle.std.specs.List.{range_with_len, AllByRecursion}
+-- Check values one point after the other.
+use Rattle.std.proofs.Common.{◌≡◌, ℕ, ◌+◌, ◌<◌, List, [], ◌∷◌, ◌++◌, map, length, take, set, sym, ap, ◌∙◌, ap₂, add_assoc, add-one, arith}
+use Rattle.std.specs.List.{range_with_len}
 use Rattle.std.proofs.lemmas.List.FromFn.{map-range_with_len_more}
-use Rattle.std.proofs.lemmas.List.{take_more_set, drop_more, drop_all}
-use Rattle.algebra.specs.Arith.{Arith, Laws}
+use Rattle.std.proofs.lemmas.List.{take_more_set}
+use Rattle.algebra.specs.Arith.{Arith}
 use Rattle.algebra.specs.Words.{value}
 use Rattle.algebra.specs.BlockCode.{ops, root_power}
-use Rattle.algebra.proofs.Horner.{horner, horner_value}
-
-module _ (A : Arith) (x : ℕ) where
-  pub horner_turn : (w : List ℕ) (i sum product next : ℕ) → i < length w → product ≡ A.mul sum x → next ≡ A.add product (get_or w i 0)
-      → horner A x next (drop (i + 1) w) ≡ horner A x sum (drop i w)
-  horner_turn w i sum product next h p n =
-      ap (λ s. horner A x s (drop (i + 1) w)) (n ∙ ap (λ y. A.add y (get_or w i 0)) p) ∙ ap (horner A x sum) (sym (drop_more w i 0 h))
-
-  pub value_of_none : (w : List ℕ) → length w ≡ 0 → 0 ≡ value (ops A) w x
-  value_of_none [] e = refl
-  value_of_none (c ∷ w) e = absurd (omega arith)
-
-  pub value_by_horner : Laws A → (w : List ℕ) (i sum : ℕ) → (length w ≡ 0 → ⊥) → length w ≤ i → x < A.size → AllByRecursion (λ s. s < A.size) w
-      → horner A x sum (drop i w) ≡ horner A x (get_or w 0 0) (drop 1 w) → sum ≡ value (ops A) w x
-  value_by_horner L [] i sum some end hx all e = absurd (some refl)
-  value_by_horner L (c ∷ w) i sum some end hx all e = ap (horner A x sum) (sym (drop_all i (c ∷ w) end)) ∙ e ∙ horner_value A L x c w hx all
 
 -- one more check value, and the next point
 module _ (A : Arith) (b : ℕ) (word : List ℕ) where

@@ -1,6 +1,5 @@
 -- What each call on a code answers, and what it leaves in the memory lent to it.
-use Rattle.std.specs.Prelude.{ℕ, suc, cond, not, List, [], ◌∷◌, ◌++◌, length, drop, Some, None, Ok, Err, Option, Result, ◌==◌, nat_lt}
-use Rattle.std.specs.Option.{option_map}
+use Rattle.std.specs.Prelude.{ℕ, not, List, ◌++◌, length, drop, Some, None, Ok, Err, Option, Result, ◌==◌, nat_le, nat_lt, position}
 use Rattle.algebra.specs.Arith.{Arith}
 use Rattle.algebra.specs.BlockCode.{symbols, check_count, dimension, encoded, check_values}
 use Rattle.algebra.specs.declared.Design.{Design}
@@ -10,8 +9,7 @@ use Rattle.code.specs.declared.fault.CodeFault.TheVariants.{WordLength, Symbol, 
 
 -- the place of the first number that is not below the limit
 abbrev pub outside : ℕ → List ℕ → Option ℕ
-outside limit [] = None
-outside limit (x ∷ w) = cond (nat_lt x limit) (option_map suc (outside limit w)) (Some 0)
+outside limit w = position (λ x. nat_le limit x) w
 
 -- the word is as long as it should be, its symbols are in the alphabet and there is room for what is written; or the first refusal
 abbrev pub judged : {X : Type 0} → ℕ → ℕ → List ℕ → ℕ → ℕ → X → Result X CodeFault

@@ -1,5 +1,6 @@
 -- Marks on the numbers from 0 on, as a list of tests, and sets of numbers.
-use Rattle.std.specs.Prelude.{◌≡◌, ℕ, ◌+◌, ◌*◌, ◌%◌, ◌<◌, Bool, false, T, List, length, slice_index_or}
+use Rattle.std.specs.Prelude.{◌≡◌, ℕ, ◌+◌, ◌*◌, ◌%◌, ◌<◌, Bool, false, T, List, length, filter, slice_index_or}
+use Rattle.std.specs.List.{range_with_len}
 use Rattle.algebra.specs.Arith.{Arith}
 use Rattle.algebra.specs.declared.Alphabet.{Alphabet}
 use Rattle.algebra.specs.declared.Alphabet.TheVariants.{Whole, Ground}
@@ -7,6 +8,10 @@ use Rattle.algebra.specs.declared.Alphabet.TheVariants.{Whole, Ground}
 -- whether e is marked
 abbrev pub marked : List Bool → ℕ → Bool
 marked marks e = slice_index_or marks e false
+
+-- the marked numbers below the order, rising
+abbrev pub marked_below : ℕ → List Bool → List ℕ
+marked_below order marks = filter (marked marks) (range_with_len 0 order)
 
 -- what an exponent is multiplied by to reach the next one that goes with it: 1 leads to itself
 abbrev pub factor : Arith → Alphabet → ℕ

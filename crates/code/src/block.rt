@@ -1,12 +1,19 @@
-// An opened code: plain numbers, to be used beside the field that it was opened from.
-ghost use Rattle.std.specs.Prelude.{◌<◌, ◌≤◌};
+// An opened code: plain numbers beside the field that it was opened from.
+ghost use Rattle.std.specs.Prelude.{◌≡◌};
+ghost use Rattle.std.proofs.Props.{props};
+ghost use Rattle.algebra.specs.BlockCode.{Accepted};
+ghost use Rattle.code.specs.Opened.{TablesOf};
 
 use algebra::Design;
+use field::Field;
+use std::alloc::AllocError;
+use tables::Tables;
 
 mod checking;
 mod encoding;
 mod opening;
 mod parts;
+mod tables;
 
 // No word is longer.
 pub(crate) const LONGEST: usize = 255;
@@ -14,17 +21,22 @@ pub(crate) const LONGEST: usize = 255;
 // A code has at least one message symbol.
 pub(crate) const MOST_CHECKS: usize = LONGEST - 1;
 
-// Made by `Code::open` alone.
-#[derive(Clone, Copy)]
-pub struct Code {
-    design: Design,
-    redundancy: usize,
-    // the root to the first exponent
-    start: u16,
-    exponents: [u16; MOST_CHECKS],
-    generator: [u16; LONGEST],
-    ghost short: { design.length ≤ 255 },
-    ghost some_message: { redundancy < design.length },
-    ghost distance_low: { 3 ≤ design.distance },
-    ghost distance_high: { design.distance ≤ 33 },
+// Made by `Code::open` alone: the field accepted the design, and the tables are what follows from both.
+#[derive(Copy)]
+pub struct Code<F: Field> {
+    pub field: F,
+    pub design: Design,
+    tables: Tables,
+    pub ghost accepted: { Accepted (F.meaning field) design } by { Prim.hlevel props },
+    pub ghost opened: { TablesOf (F.meaning field) design tables },
+}
+
+impl<F: Field> Clone for Code<F> {
+    ghost is_clone = { λ code copy. copy ≡ code };
+
+    ghost is_infallible = { λ _. Unit {0} };
+
+    fn clone(&self) -> Result<Self, AllocError> {
+        Ok(*self)
+    }
 }

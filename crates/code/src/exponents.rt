@@ -1,64 +1,73 @@
-// The exponent set of a code: marks on the numbers below the order of the root, and the list of those that are marked.
-ghost use Rattle.std.specs.Prelude.{◌≡◌, ℕ, ◌<◌, ◌≤◌, Bool, T, length, take, set, filter};
+// The exponent set of a code: marks on the numbers below the order of the root.
+ghost use Rattle.std.specs.Prelude.{◌≡◌, ℕ, ◌+◌, ◌<◌, ◌≤◌, Bool, T, ◌++◌, length, take, drop, filter};
 ghost use Rattle.std.specs.List.{range_with_len};
-ghost use Rattle.code.specs.Marks.{marked, step, Within, Closed, MarkedRun};
+ghost use Rattle.code.specs.Marks.{marked, marked_below, step, Within, Closed, MarkedRun};
 
 // At least the order of any field's root.
-pub(crate) const MARKS: usize = 1024;
+const MOST_ORDER: usize = 1024;
 
-// Marks `start`, that times `factor` modulo `order`, and so on up to one that was marked before.
-fn mark_orbit(marks: &mut [bool], order: u16, factor: u16, start: u16)
-    requires fits { order ≤ length marks.old }
-    requires inside { start < order }
-    ensures kept { Within (marked marks.old) (marked marks.new) }
-    ensures started { T (marked marks.new start) }
-    ensures closed { Closed (step order factor) (marked marks.old) → Closed (step order factor) (marked marks.new) }
-    ensures least { (set : ℕ → Bool) → Closed (step order factor) set → T (set start) → Within (marked marks.old) set → Within (marked marks.new) set }
-{
-    let mut exponent = start;
-    while !marks[exponent as usize] {
-        marks[exponent as usize] = true;
-        exponent = (exponent as u32 * factor as u32 % order as u32) as u16;
-    }
+// Marks on the numbers below the order.
+#[derive(Drop)]
+pub(crate) struct Marks {
+    order: u16,
+    marks: [bool; MOST_ORDER],
+    ghost fits: { order ≤ 1024 },
 }
 
-// Marks the smallest set that holds `count` exponents from `first` on, modulo `order`, and with each also its product with
-// `factor` modulo `order`.
-pub(crate) fn marked_exponents(order: u16, factor: u16, first: u16, count: u16) -> [bool; MARKS]
-    requires order { order ≤ 1024 }
-    requires first { first < order }
-    requires count { count ≤ 32 }
-    ensures { MarkedRun order factor first count result }
-{
-    let mut marks = [false; MARKS];
-    for i in 0..count {
-        mark_orbit(&mut marks, order, factor, (first + i) % order);
+impl Marks {
+    // Marks the smallest set that holds `count` exponents from `first` on, modulo `order`, and with each also its product with
+    // `factor` modulo `order`.
+    pub(crate) fn of_run(order: u16, factor: u16, first: u16, count: u16) -> Marks
+        requires order { order ≤ 1024 }
+        requires first { first < order }
+        requires count { count ≤ 32 }
+        ensures order { result.order ≡ order }
+        ensures run { MarkedRun order factor first count result.marks }
+    {
+        let mut all = Marks {
+            order,
+            marks: [false; MOST_ORDER],
+        };
+        for i in 0..count {
+            all.mark_orbit(factor, (first + i) % order);
+        }
+        all
     }
-    marks
-}
 
-// Writes a number where the list has such a place.
-fn put(list: &mut [u16], place: usize, number: u16)
-    ensures { list.new ≡ set list.old place number }
-{
-    if place < list.len() {
-        list[place] = number;
-    }
-}
-
-// Writes the marked numbers below `order` by their size, as many as the list has places for, and counts them all.
-pub(crate) fn list_marked(marks: &[bool], order: u16, list: &mut [u16]) -> usize
-    requires { order ≤ length marks.now }
-    ensures few { result ≤ order }
-    ensures count { result ≡ length (filter (marked marks.now) (range_with_len 0 order)) }
-    ensures listed { result ≤ length list.old → take result list.new ≡ filter (marked marks.now) (range_with_len 0 order) }
-{
-    let mut count = 0;
-    for number in 0..order {
-        if marks[number as usize] {
-            put(list, count, number);
-            count += 1;
+    // Marks `start`, that times `factor` modulo the order, and so on up to one that was marked before.
+    fn mark_orbit(&mut self, factor: u16, start: u16)
+        requires { start < self.old.order }
+        ensures order { self.new.order ≡ self.old.order }
+        ensures size { length self.new.marks ≡ length self.old.marks }
+        ensures kept { Within (marked self.old.marks) (marked self.new.marks) }
+        ensures started { T (marked self.new.marks start) }
+        ensures closed { Closed (step self.old.order factor) (marked self.old.marks) → Closed (step self.old.order factor) (marked self.new.marks) }
+        ensures least { (set : ℕ → Bool) → Closed (step self.old.order factor) set → T (set start) → Within (marked self.old.marks) set → Within (marked self.new.marks) set }
+    {
+        let mut exponent = start;
+        while !self.marks[usize::from(exponent)] {
+            self.marks[usize::from(exponent)] = true;
+            exponent = (u32::from(exponent) * u32::from(factor) % u32::from(self.order)) as u16;
         }
     }
-    count
+
+    // How many numbers are marked.
+    pub(crate) fn count(&self) -> usize
+        ensures few { result ≤ self.now.order }
+        ensures value { result ≡ length (marked_below self.now.order self.now.marks) }
+    {
+        (0..self.order)
+            .filter(|e| self.marks[usize::from(*e)])
+            .count()
+    }
+
+    // Writes the marked numbers by their size to the front of the list, as many as it has places for.
+    pub(crate) fn write(&self, list: &mut [u16])
+        ensures { length (marked_below self.now.order self.now.marks) ≤ length list.old → take (length (marked_below self.now.order self.now.marks)) list.new ≡ marked_below self.now.order self.now.marks }
+    {
+        let marked = (0..self.order).filter(|e| self.marks[usize::from(*e)]);
+        for (i, number) in marked.take(list.len()).enumerate() {
+            list[i] = number;
+        }
+    }
 }

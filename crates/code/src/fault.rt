@@ -4,9 +4,10 @@ ghost use Rattle.code.specs.Fault.{code_fault, code_words};
 ghost use Rattle.code.specs.declared.fault.CodeFault.TheVariants.{Field};
 
 use field::{Fault, FieldFault, Layer};
+use std::error::Error;
 use std::fmt;
 
-#[derive(Clone, Copy)]
+#[derive(Clone, Copy, PartialEq, Eq, Debug)]
 pub enum CodeFault {
     // the field below was not opened
     Field(FieldFault),
@@ -28,6 +29,7 @@ pub enum CodeFault {
     Room,
 }
 
+// By hand: a derived From does not say which case it makes.
 impl From<FieldFault> for CodeFault {
     ghost from_gives = { λ f r. r ≡ Field f };
 
@@ -40,14 +42,14 @@ impl Fault for CodeFault {
     ghost told = { code_fault };
 
     fn layer(&self) -> Layer {
-        match self {
+        match *self {
             CodeFault::Field(fault) => fault.layer(),
             _ => Layer::Code,
         }
     }
 
     fn number(&self) -> u32 {
-        match self {
+        match *self {
             CodeFault::Field(fault) => fault.number(),
             CodeFault::Length => 4,
             CodeFault::FirstExponent => 5,
@@ -61,11 +63,11 @@ impl Fault for CodeFault {
     }
 
     fn place(&self) -> u32 {
-        match self {
+        match *self {
             CodeFault::Field(fault) => fault.place(),
-            CodeFault::Redundancy(checks) => *checks,
-            CodeFault::Generator(degree) => *degree,
-            CodeFault::Symbol(place) => *place,
+            CodeFault::Redundancy(checks) => checks,
+            CodeFault::Generator(degree) => degree,
+            CodeFault::Symbol(place) => place,
             _ => 0,
         }
     }
@@ -76,7 +78,7 @@ impl CodeFault {
     pub fn words(&self) -> &'static str
         ensures { result.now ≡ code_words self.now }
     {
-        match self {
+        match *self {
             CodeFault::Field(fault) => fault.words(),
             CodeFault::Length => "the length must be 2 to 255, and at most the order of the root",
             CodeFault::FirstExponent => "the first exponent must be below the order of the root",
@@ -97,3 +99,5 @@ impl fmt::Display for CodeFault {
         f.write_str(self.words())
     }
 }
+
+impl Error for CodeFault {}

@@ -11,15 +11,15 @@ use field::Field;
 pub(crate) fn generator_of<F: Field>(field: &F, exponents: &[u16]) -> [u16; LONGEST]
     requires { length exponents.now < 255 }
     ensures size { length result ≡ 255 }
-    ensures product { F.sound field.now → take (suc (length exponents.now)) result ≡ times_factors (ops (F.meaning field.now)) (1 ∷ []) (map (root_power (F.meaning field.now)) exponents.now) }
+    ensures product { take (suc (length exponents.now)) result ≡ times_factors (ops (F.meaning field.now)) (1 ∷ []) (map (root_power (F.meaning field.now)) exponents.now) }
 {
     let root = field.root();
     let mut product = [0; LONGEST];
     product[0] = 1;
     for (i, exponent) in exponents.iter().enumerate() {
-        let point = field.power(root, *exponent as u32);
+        let point = field.power(root, u32::from(*exponent));
         product[i + 1] = 0;
-        multiply_by_factor(field, point, &mut product[0..i + 2]);
+        multiply_by_factor(field, point, &mut product[0..=i + 1]);
     }
     product
 }

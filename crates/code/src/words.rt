@@ -10,7 +10,7 @@ use field::Field;
 
 // How many symbols the alphabet has.
 pub(crate) fn symbol_count<F: Field>(field: &F, alphabet: Alphabet) -> u16
-    ensures { F.sound field.now → result ≡ symbols (F.meaning field.now) alphabet }
+    ensures { result ≡ symbols (F.meaning field.now) alphabet }
 {
     match alphabet {
         Alphabet::Whole => field.size(),
@@ -20,44 +20,45 @@ pub(crate) fn symbol_count<F: Field>(field: &F, alphabet: Alphabet) -> u16
 
 // w - c * d
 fn minus_product<F: Field>(field: &F, w: u16, c: u16, d: u16) -> u16
-    ensures { F.sound field.now → result ≡ (F.meaning field.now).add w ((F.meaning field.now).neg ((F.meaning field.now).mul c d)) }
+    ensures { result ≡ (F.meaning field.now).add w ((F.meaning field.now).neg ((F.meaning field.now).mul c d)) }
 {
     field.add(w, field.neg(field.mul(c, d)))
 }
 
-// Takes `factor` times `other` from the word, from the first place on.
+// Takes `factor` times `other` from the word, from the first place on. The two are walked side by side by hand: a `zip` that
+// changes one of them leaves a proof no word to speak of between two steps.
 pub(crate) fn subtract_multiple<F: Field>(field: &F, factor: u16, word: &mut [u16], other: &[u16])
-    ensures { F.sound field.now → word.new ≡ less (ops (F.meaning field.now)) factor word.old other.now }
+    ensures { word.new ≡ less (ops (F.meaning field.now)) factor word.old other.now }
 {
-    for i in 0..word.len().min(other.len()) {
-        word[i] = minus_product(field, word[i], factor, other[i]);
+    let mut others = other.iter();
+    for symbol in word.iter_mut() {
+        let Some(other) = others.next() else {
+            return;
+        };
+        *symbol = minus_product(field, *symbol, factor, *other);
     }
 }
 
 // Multiplies by x - `root` a word whose last symbol is 0 and makes room for the product.
 pub(crate) fn multiply_by_factor<F: Field>(field: &F, root: u16, word: &mut [u16])
-    ensures { F.sound field.now → word.new ≡ less (ops (F.meaning field.now)) root word.old (0 ∷ word.old) }
+    ensures { word.new ≡ less (ops (F.meaning field.now)) root word.old (0 ∷ word.old) }
 {
     let mut above = 0;
-    for i in 0..word.len() {
-        let here = word[i];
-        word[i] = minus_product(field, here, root, above);
+    for symbol in word.iter_mut() {
+        let here = *symbol;
+        *symbol = minus_product(field, here, root, above);
         above = here;
     }
 }
 
 // The value of the word at `x`, by Horner's rule: a product for each symbol but the first.
 pub(crate) fn value_at<F: Field>(field: &F, word: &[u16], x: u16) -> u16
-    ensures { F.sound field.now → x < (F.meaning field.now).size → AllByRecursion (λ s. s < (F.meaning field.now).size) word.now → result ≡ value (ops (F.meaning field.now)) word.now x }
+    ensures { x < (F.meaning field.now).size → AllByRecursion (λ s. s < (F.meaning field.now).size) word.now → result ≡ value (ops (F.meaning field.now)) word.now x }
 {
-    if word.is_empty() {
+    let Some((first, rest)) = word.split_first() else {
         return 0;
-    }
-    let mut sum = word[0];
-    for i in 1..word.len() {
-        sum = field.add(field.mul(sum, x), word[i]);
-    }
-    sum
+    };
+    rest.iter().fold(*first, |sum, symbol| field.add(field.mul(sum, x), *symbol))
 }
 
 // The place of the first symbol that is not below `limit`.
@@ -65,19 +66,14 @@ pub(crate) fn first_outside(limit: u16, word: &[u16]) -> Option<usize>
     ensures within { IfSome result (λ j. j < length word.now) }
     ensures found { result ≡ outside limit word.now }
 {
-    for (i, symbol) in word.iter().enumerate() {
-        if *symbol >= limit {
-            return Some(i);
-        }
-    }
-    None
+    word.iter().position(|symbol| *symbol >= limit)
 }
 
 // Takes `steps` steps of the division by the polynomial with the coefficients 1 and then `divisor`. What they leave of the
-// word stands behind its first `steps` places.
+// word stands behind its first `steps` places. A step needs its place twice, so it is counted.
 pub(crate) fn divide<F: Field>(field: &F, steps: usize, divisor: &[u16], word: &mut [u16])
     requires { steps ≤ length word.old }
-    ensures { F.sound field.now → drop steps word.new ≡ remainder (ops (F.meaning field.now)) steps divisor.now word.old }
+    ensures { drop steps word.new ≡ remainder (ops (F.meaning field.now)) steps divisor.now word.old }
 {
     for i in 0..steps {
         let lead = word[i];
@@ -87,10 +83,10 @@ pub(crate) fn divide<F: Field>(field: &F, steps: usize, divisor: &[u16], word: &
 
 // Turns each symbol into its negative.
 pub(crate) fn negate<F: Field>(field: &F, word: &mut [u16])
-    ensures { F.sound field.now → word.new ≡ map (F.meaning field.now).neg word.old }
+    ensures { word.new ≡ map (F.meaning field.now).neg word.old }
 {
-    for i in 0..word.len() {
-        word[i] = field.neg(word[i]);
+    for symbol in word.iter_mut() {
+        *symbol = field.neg(*symbol);
     }
 }
 

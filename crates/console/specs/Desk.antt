@@ -17,11 +17,11 @@ current desk = option_map any_meaning desk.field
 abbrev pub Obeyed : Result (List ℕ) complaints.Complaint → Result (String Global) Failure → Type 0
 Obeyed said (Ok line) = said ≡ Ok (string_bytes line)
 Obeyed said (Err (Complaint c)) = said ≡ Err c
-Obeyed said (Err Memory) = Unit {0}
+Obeyed said (Err (Memory e)) = Unit {0}
 
 -- the same of a whole line, to which nothing may be to be said
 abbrev pub CarriedOut : Option (Result (List ℕ) complaints.Complaint) → Result (Option (String Global)) Failure → Type 0
 CarriedOut said (Ok None) = said ≡ None
 CarriedOut said (Ok (Some line)) = said ≡ Some (Ok (string_bytes line))
 CarriedOut said (Err (Complaint c)) = said ≡ Some (Err c)
-CarriedOut said (Err Memory) = Unit {0}
+CarriedOut said (Err (Memory e)) = Unit {0}

@@ -1,12 +1,12 @@
 // The commands, and how a line is read as one.
 ghost use Rattle.std.specs.Prelude.{◌≡◌};
-ghost use Rattle.console.specs.Reading.{comment, ReadAs};
+ghost use Rattle.console.specs.Reading.{ReadAs};
 ghost use Rattle.console.specs.Words.{digits_alone, number_in};
 
 use crate::complaint::Complaint;
 use std::str::{SplitAsciiWhitespace, from_utf8};
 
-#[derive(Clone, Copy)]
+#[derive(Clone, Copy, Debug, PartialEq, Eq)]
 pub enum Command {
     // degree and polynomial
     Binary(u32, u32),
@@ -16,7 +16,7 @@ pub enum Command {
 }
 
 // What is asked of the current field.
-#[derive(Clone, Copy)]
+#[derive(Clone, Copy, Debug, PartialEq, Eq)]
 pub enum Question {
     Sum(u16, u16),
     Negative(u16),
@@ -31,13 +31,11 @@ impl Command {
     pub(crate) fn read(line: &[u8]) -> Result<Option<Command>, Complaint>
         ensures { ReadAs line.now result }
     {
-        if is_comment(line) {
+        if line.starts_with(b"#") {
             return Ok(None);
         }
-        match from_utf8(line) {
-            Ok(text) => Command::in_text(text),
-            Err(_) => Err(Complaint::NotText),
-        }
+        let text = from_utf8(line).map_err(|_| Complaint::NotText)?;
+        Command::in_text(text)
     }
 
     fn in_text(line: &str) -> Result<Option<Command>, Complaint> {
@@ -46,47 +44,35 @@ impl Command {
             return Ok(None);
         };
         let command = named(verb, &mut words)?;
-        match words.next() {
-            None => Ok(Some(command)),
-            Some(_) => Err(Complaint::TooManyWords),
+        if words.next().is_some() {
+            return Err(Complaint::TooManyWords);
         }
+        Ok(Some(command))
     }
-}
-
-fn is_comment(line: &[u8]) -> bool
-    ensures { result ≡ comment line.now }
-{
-    line.starts_with(b"#")
 }
 
 fn named(verb: &str, words: &mut SplitAsciiWhitespace<'_>) -> Result<Command, Complaint> {
     match verb {
         "binary" => Ok(Command::Binary(number(words)?, number(words)?)),
         "prime" => Ok(Command::Prime),
-        "sum" => Ok(Command::Ask(Question::Sum(symbol(words)?, symbol(words)?))),
-        "negative" => Ok(Command::Ask(Question::Negative(symbol(words)?))),
-        "product" => Ok(Command::Ask(Question::Product(symbol(words)?, symbol(words)?))),
-        "inverse" => Ok(Command::Ask(Question::Inverse(symbol(words)?))),
+        "sum" => Ok(Command::Ask(Question::Sum(number(words)?, number(words)?))),
+        "negative" => Ok(Command::Ask(Question::Negative(number(words)?))),
+        "product" => Ok(Command::Ask(Question::Product(number(words)?, number(words)?))),
+        "inverse" => Ok(Command::Ask(Question::Inverse(number(words)?))),
         "powers" => Ok(Command::Ask(Question::Powers)),
         "help" => Ok(Command::Help),
         _ => Err(Complaint::UnknownCommand),
     }
 }
 
-// The next word as a parameter of an opening.
-fn number(words: &mut SplitAsciiWhitespace<'_>) -> Result<u32, Complaint> {
-    let Some(word) = words.next() else {
-        return Err(Complaint::TooFewWords);
-    };
-    decimal(word)
-}
-
-// The next word as a symbol.
-fn symbol(words: &mut SplitAsciiWhitespace<'_>) -> Result<u16, Complaint> {
-    match u16::try_from(number(words)?) {
-        Ok(symbol) => Ok(symbol),
-        Err(_) => Err(Complaint::NumberTooLarge),
-    }
+// The next word, as a number that the call takes.
+fn number<T>(words: &mut SplitAsciiWhitespace<'_>) -> Result<T, Complaint>
+where
+    T: TryFrom<u32>,
+    T::Error: Drop,
+{
+    let word = words.next().ok_or(Complaint::TooFewWords)?;
+    T::try_from(decimal(word)?).map_err(|_| Complaint::NumberTooLarge)
 }
 
 // A word of decimal digits alone, as the number that it writes.
@@ -96,19 +82,11 @@ fn decimal(word: &str) -> Result<u32, Complaint>
     if !is_digits(word) {
         return Err(Complaint::NotANumber);
     }
-    match word.parse::<u32>() {
-        Ok(number) => Ok(number),
-        Err(_) => Err(Complaint::NumberTooLarge),
-    }
+    word.parse().map_err(|_| Complaint::NumberTooLarge)
 }
 
 fn is_digits(word: &str) -> bool
     ensures { result ≡ digits_alone word.now }
 {
-    for byte in word.as_bytes() {
-        if !byte.is_ascii_digit() {
-            return false;
-        }
-    }
-    !word.is_empty()
+    !word.is_empty() && word.as_bytes().iter().all(u8::is_ascii_digit)
 }

@@ -1,10 +1,11 @@
 // What the console itself cannot take.
-ghost use Rattle.std.specs.Prelude.{◌≡◌, Some};
+ghost use Rattle.std.specs.Prelude.{Some};
 ghost use Rattle.console.specs.Lines.{complaint_words};
 
+use std::error::Error;
 use std::fmt;
 
-#[derive(Clone, Copy)]
+#[derive(Clone, Copy, Debug, PartialEq, Eq)]
 pub enum Complaint {
     NotText,
     UnknownCommand,
@@ -15,11 +16,11 @@ pub enum Complaint {
     NoField,
 }
 
-impl Complaint {
-    fn words(&self) -> &'static str
-        ensures { result.now ≡ complaint_words self.now }
-    {
-        match self {
+impl fmt::Display for Complaint {
+    ghost output = { λ c. Some (complaint_words c) };
+
+    fn fmt<W: fmt::Write>(&self, f: &mut fmt::Formatter<W>) -> fmt::Result {
+        f.write_str(match self {
             Complaint::NotText => "the line is not UTF-8 text",
             Complaint::UnknownCommand => "unknown command, try help",
             Complaint::TooFewWords => "too few words",
@@ -27,14 +28,8 @@ impl Complaint {
             Complaint::NotANumber => "not a decimal number",
             Complaint::NumberTooLarge => "the number is too large",
             Complaint::NoField => "no field is open",
-        }
+        })
     }
 }
 
-impl fmt::Display for Complaint {
-    ghost output = { λ c. Some (complaint_words c) };
-
-    fn fmt<W: fmt::Write>(&self, f: &mut fmt::Formatter<W>) -> fmt::Result {
-        f.write_str(self.words())
-    }
-}
+impl Error for Complaint {}

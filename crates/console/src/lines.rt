@@ -8,38 +8,34 @@ use crate::complaint::Complaint;
 use field::{Fault, Field};
 use std::alloc::{AllocError, Global};
 use std::fmt::Display;
+use std::iter;
 
 // The numbers with one space between two.
 pub fn spaced_text(heap: Global, numbers: &[u16]) -> Result<String, AllocError>
     ensures { IfOk result (λ s. string_bytes s ≡ spaced numbers.now) }
 {
-    let mut text = String::new(heap);
-    for (i, n) in numbers.iter().enumerate() {
-        if i > 0 {
-            text.push_str(" ")?;
-        }
-        let digits = n.to_string(heap)?;
-        text.push_str(digits.as_str())?;
+    let Some((first, rest)) = numbers.split_first() else {
+        return Ok(String::new(heap));
+    };
+    let mut text = first.to_string(heap)?;
+    for n in rest {
+        write!(text, " {n}")?;
     }
     Ok(text)
 }
 
 // The powers of the root, from 1 on, as many as its order.
 pub fn powers<F: Field>(heap: Global, field: &F) -> Result<Vec<u16>, AllocError>
-    ensures { F.sound field.now → IfOk result (λ v. v.items ≡ powers_of (F.meaning field.now)) }
+    ensures { IfOk result (λ v. v.items ≡ powers_of (F.meaning field.now)) }
 {
     let root = field.root();
-    let mut all = Vec::new(heap);
-    let mut power = 1;
-    for _i in 0..field.order() {
-        all.push(power)?;
-        power = field.mul(root, power);
-    }
-    Ok(all)
+    iter::successors(Some(1), |power| Some(field.mul(root, *power)))
+        .take(usize::from(field.order()))
+        .collect(heap)
 }
 
 pub fn field_text<F: Field>(heap: Global, field: &F) -> Result<String, AllocError>
-    ensures { F.sound field.now → IfOk result (λ s. string_bytes s ≡ field_line (F.meaning field.now)) }
+    ensures { IfOk result (λ s. string_bytes s ≡ field_line (F.meaning field.now)) }
 {
     let size = field.size();
     let ground = field.ground();
@@ -54,7 +50,7 @@ pub fn calculated_text<F: Field>(
     field: &F,
     question: Question,
 ) -> Result<String, AllocError>
-    ensures { F.sound field.now → IfOk result (λ s. string_bytes s ≡ calculated (F.meaning field.now) question) }
+    ensures { IfOk result (λ s. string_bytes s ≡ calculated (F.meaning field.now) question) }
 {
     match question {
         Question::Sum(a, b) => field.add(a, b).to_string(heap),

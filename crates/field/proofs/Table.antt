@@ -1,13 +1,12 @@
 -- Each supplied polynomial is accepted: one computed test of the table, and what the test tells of an entry.
-use Rattle.std.proofs.Common.{◌≡◌, ℕ, zero, suc, ◌+◌, ◌-◌, ◌%◌, ◌^◌, ◌<◌, ◌≤◌, Bool, true, ◌&&◌, ◌||◌, eqb, ltb, leb, List, [], ◌∷◌, length, get_or, Ok, sym, refl, ◌∙◌, subst, arith, pow_mono}
-use Rattle.std.proofs.lemmas.Bool.{cond-false, and_parts, eqb-true, leb-true, ltb-true}
-use Rattle.algebra.specs.Search.{Returns}
-use Rattle.algebra.specs.Binary.{bit, sum_over, carryless, remainder, binary}
+use Rattle.std.proofs.Common.{rules, ◌≡◌, ℕ, zero, suc, ◌+◌, ◌-◌, ◌%◌, ◌^◌, ◌<◌, ◌≤◌, Bool, true, ◌&&◌, eqb, ltb, leb, List, [], ◌∷◌, length, get_or, Ok, refl, subst, arith, pow_mono}
+use Rattle.std.proofs.lemmas.Bool.{and_parts, eqb-true, leb-true, ltb-true}
+use Rattle.algebra.specs.Search.{Returns, root_return}
+use Rattle.algebra.specs.Binary.{bit, sum_over, carryless, remainder, binary, Shape}
 use Rattle.field.specs.Opening.{opening}
 use Rattle.field.specs.Supplied.{polynomials, standard_opening}
 use Rattle.algebra.proofs.Walks.{first_return}
 use Rattle.algebra.proofs.Computed.{comes_back, returns_by}
-use Rattle.field.proofs.Openings.{degree_passes, opening_field}
 
 -- P is odd and of degree m, and the powers of the root first return to 1 at 2^m - 1
 abbrev accepted : ℕ → ℕ → Bool
@@ -29,6 +28,10 @@ entry_accepted m (P ∷ Ps) t (suc i) h =
     let e : suc m + i ≡ m + suc i = omega arith in
     subst (λ k. accepted k (get_or Ps i 0) ≡ true) e (entry_accepted (suc m) Ps (and_parts (accepted m P) (each_accepted (suc m) Ps) t).1 i (omega arith))
 
+-- the opening of a binary field whose degree and polynomial pass
+opening_field : (m P : ℕ) → Shape m P → P % 2 ≡ 1 → root_return (binary m P) ≡ 2 ^ m - 1 → opening m P ≡ Ok (binary m P)
+opening_field m P shape odd e = search rules
+
 opens : (m P : ℕ) → 2 ≤ m → m ≤ 10 → accepted m P ≡ true → opening m P ≡ Ok (binary m P)
 opens m P low high t =
     let step : ℕ → ℕ = (binary m P).mul 2 in
@@ -44,5 +47,5 @@ pub supplied_opens : (m : ℕ) → 2 ≤ m → m ≤ 10 → opening m (get_or po
 supplied_opens m low high =
     let P = get_or polynomials (m - 2) 0 in
     let e : 2 + (m - 2) ≡ m = omega arith in
-    opens m P low high (subst (λ k. accepted k P ≡ true) e (entry_accepted 2 polynomials table_accepted (m - 2) (omega arith)))
-    ∙ sym (cond-false (ltb m 2 || ltb 10 m) _ _ (degree_passes m P low high))
+    let opened = opens m P low high (subst (λ k. accepted k P ≡ true) e (entry_accepted 2 polynomials table_accepted (m - 2) (omega arith))) in
+    search rules

@@ -12,66 +12,50 @@ pub enum AnyField {
     Prime(PrimeField),
 }
 
+// One call, on the field of whichever kind it is.
+macro_rules! on_either {
+    ($any:expr, $field:ident => $call:expr) => {
+        match $any {
+            AnyField::Binary($field) => $call,
+            AnyField::Prime($field) => $call,
+        }
+    };
+}
+
 impl Field for AnyField {
     ghost meaning = { any_meaning };
 
-    ghost sound = { λ _. Unit {0} };
-
-    ghost keeps = { elim [ Binary f ↦ λ _. binary_laws f.degree f.polynomial f.shape f.returns | Prime f ↦ λ _. modulo_laws f.modulus f.root f.low f.high f.inside f.returns ] };
+    ghost keeps = { elim [ Binary f ↦ binary_laws f.polynomial.degree f.polynomial.bits f.polynomial.shape f.returns | Prime f ↦ modulo_laws f.modulus f.root f.low f.high f.inside f.returns ] };
 
     fn size(&self) -> u16 {
-        match self {
-            AnyField::Binary(f) => f.size(),
-            AnyField::Prime(f) => f.size(),
-        }
+        on_either!(self, f => f.size())
     }
 
     fn ground(&self) -> u16 {
-        match self {
-            AnyField::Binary(f) => f.ground(),
-            AnyField::Prime(f) => f.ground(),
-        }
+        on_either!(self, f => f.ground())
     }
 
     fn order(&self) -> u16 {
-        match self {
-            AnyField::Binary(f) => f.order(),
-            AnyField::Prime(f) => f.order(),
-        }
+        on_either!(self, f => f.order())
     }
 
     fn root(&self) -> u16 {
-        match self {
-            AnyField::Binary(f) => f.root(),
-            AnyField::Prime(f) => f.root(),
-        }
+        on_either!(self, f => f.root())
     }
 
     fn add(&self, a: u16, b: u16) -> u16 {
-        match self {
-            AnyField::Binary(f) => f.add(a, b),
-            AnyField::Prime(f) => f.add(a, b),
-        }
+        on_either!(self, f => f.add(a, b))
     }
 
     fn neg(&self, a: u16) -> u16 {
-        match self {
-            AnyField::Binary(f) => f.neg(a),
-            AnyField::Prime(f) => f.neg(a),
-        }
+        on_either!(self, f => f.neg(a))
     }
 
     fn mul(&self, a: u16, b: u16) -> u16 {
-        match self {
-            AnyField::Binary(f) => f.mul(a, b),
-            AnyField::Prime(f) => f.mul(a, b),
-        }
+        on_either!(self, f => f.mul(a, b))
     }
 
     fn inv(&self, a: u16) -> u16 {
-        match self {
-            AnyField::Binary(f) => f.inv(a),
-            AnyField::Prime(f) => f.inv(a),
-        }
+        on_either!(self, f => f.inv(a))
     }
 }

@@ -1,69 +1,33 @@
 // The field of 2^degree codes. A code is a polynomial over 0 and 1: bit i is the coefficient of x^i.
-ghost use Rattle.std.specs.Prelude.{◌≡◌, ◌-◌, ◌%◌, ◌^◌, ◌<◌};
-ghost use Rattle.algebra.specs.Search.{Returns, root_return};
-ghost use Rattle.algebra.specs.Binary.{binary, Shape};
+ghost use Rattle.std.specs.Prelude.{◌-◌, ◌^◌};
+ghost use Rattle.algebra.specs.Search.{Returns};
+ghost use Rattle.algebra.specs.Binary.{binary};
 ghost use Rattle.algebra.proofs.BinaryLaws.{binary_laws};
 
 use crate::Field;
+use polynomial::{Polynomial, X};
 
 mod opening;
+mod polynomial;
 
 // The ground codes are 0 and 1.
 const GROUND: u16 = 2;
 
-// The code of the polynomial x, which is the root.
-const X: u16 = 2;
-
-// Made by `BinaryField::open` alone: products are reduced by a polynomial of this degree, and the powers of
-// the root, which is x, are all codes but 0.
+// Made by `BinaryField::open` alone: products are reduced by the polynomial, and the powers of the root, which is x, are
+// all codes but 0.
 #[derive(Clone, Copy)]
 pub struct BinaryField {
-    degree: u16,
-    polynomial: u16,
-    ghost shape: { Shape degree polynomial },
-    ghost returns: { Returns ((binary degree polynomial).mul 2) (2 ^ degree - 1) },
-}
-
-// The product of a code and x.
-fn times_x(degree: u16, polynomial: u16, a: u16) -> u16
-    requires shape { Shape degree polynomial }
-    requires code { a < 2 ^ degree }
-    ensures product { result ≡ (binary degree polynomial).mul 2 a }
-    ensures code { result < 2 ^ degree }
-{
-    let twice = 2 * a;
-    if twice >> degree == 1 {
-        twice ^ polynomial
-    } else {
-        twice
-    }
-}
-
-// The first exponent from 1 on at which a power of x is 1.
-fn first_return(degree: u16, polynomial: u16) -> u16
-    requires shape { Shape degree polynomial }
-    requires odd { polynomial % 2 ≡ 1 }
-    ensures returns { Returns ((binary degree polynomial).mul 2) result }
-    ensures found { result ≡ root_return (binary degree polynomial) }
-{
-    let mut power = times_x(degree, polynomial, 1);
-    let mut exponent = 1;
-    while power != 1 {
-        power = times_x(degree, polynomial, power);
-        exponent += 1;
-    }
-    exponent
+    polynomial: Polynomial,
+    ghost returns: { Returns ((binary polynomial.degree polynomial.bits).mul 2) (2 ^ polynomial.degree - 1) },
 }
 
 impl Field for BinaryField {
-    ghost meaning = { λ f. binary f.degree f.polynomial };
+    ghost meaning = { λ f. binary f.polynomial.degree f.polynomial.bits };
 
-    ghost sound = { λ _. Unit {0} };
-
-    ghost keeps = { λ f _. binary_laws f.degree f.polynomial f.shape f.returns };
+    ghost keeps = { λ f. binary_laws f.polynomial.degree f.polynomial.bits f.polynomial.shape f.returns };
 
     fn size(&self) -> u16 {
-        1 << self.degree
+        1 << self.polynomial.degree
     }
 
     fn ground(&self) -> u16 {
@@ -95,21 +59,16 @@ impl Field for BinaryField {
         }
         let mut product = 0;
         let mut shifted = a;
-        for i in 0..self.degree {
+        for i in 0..self.polynomial.degree {
             if (b >> i) % 2 == 1 {
                 product ^= shifted;
             }
-            shifted = times_x(self.degree, self.polynomial, shifted);
+            shifted = self.polynomial.times_x(shifted);
         }
         product
     }
 
     fn inv(&self, a: u16) -> u16 {
-        let size = self.size();
-        if a < size {
-            self.power(a, u32::from(size) - 2)
-        } else {
-            0
-        }
+        self.inverse_by_power(a)
     }
 }

@@ -2,6 +2,7 @@
 ghost use Rattle.std.specs.Prelude.{◌≡◌, Some};
 ghost use Rattle.field.specs.Fault.{Told, field_fault, field_words, layer_name};
 
+use std::error::Error;
 use std::fmt;
 
 // The three parts of the software, from the lowest.
@@ -16,7 +17,7 @@ impl Layer {
     fn name(&self) -> &'static str
         ensures { result.now ≡ layer_name self.now }
     {
-        match self {
+        match *self {
             Self::Field => "field",
             Self::Code => "code",
             Self::Station => "station",
@@ -24,6 +25,7 @@ impl Layer {
     }
 }
 
+// By hand, as every Display here: what a derive writes states no bytes.
 impl fmt::Display for Layer {
     ghost output = { λ layer. Some (layer_name layer) };
 
@@ -32,7 +34,7 @@ impl fmt::Display for Layer {
     }
 }
 
-// A refusal. The place is 0 where the refusal names none.
+// A refusal. Outside this software it is a layer, a number and a place, which is 0 where the refusal names none.
 pub trait Fault {
     ghost told: { Self → Told };
 
@@ -65,7 +67,7 @@ impl Fault for FieldFault {
     }
 
     fn number(&self) -> u32 {
-        match self {
+        match *self {
             FieldFault::Degree => 1,
             FieldFault::Polynomial => 2,
             FieldFault::RootOrder(_) => 3,
@@ -73,9 +75,9 @@ impl Fault for FieldFault {
     }
 
     fn place(&self) -> u32 {
-        match self {
+        match *self {
             FieldFault::Degree | FieldFault::Polynomial => 0,
-            FieldFault::RootOrder(exponent) => *exponent,
+            FieldFault::RootOrder(exponent) => exponent,
         }
     }
 }
@@ -85,7 +87,7 @@ impl FieldFault {
     pub fn words(&self) -> &'static str
         ensures { result.now ≡ field_words self.now }
     {
-        match self {
+        match *self {
             FieldFault::Degree => "the degree must be 2 to 10",
             FieldFault::Polynomial => "the polynomial must be odd and of this degree",
             FieldFault::RootOrder(_) => "the root returns to 1 too early",
@@ -100,3 +102,5 @@ impl fmt::Display for FieldFault {
         f.write_str(self.words())
     }
 }
+
+impl Error for FieldFault {}

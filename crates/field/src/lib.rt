@@ -1,7 +1,7 @@
 //! Finite fields on codes: the interface with its laws, the binary fields and the prime field.
 #![tactic(auto)]
 
-ghost use Rattle.std.specs.Prelude.{◌≡◌};
+ghost use Rattle.std.specs.Prelude.{◌≡◌, suc};
 ghost use Rattle.algebra.specs.Arith.{Arith, Laws, power};
 
 mod any;
@@ -16,43 +16,40 @@ pub use prime::PrimeField;
 
 // A field, whose elements are the codes 0 to size - 1.
 // A number that is no code is answered by 0, and so is the inverse of 0.
-pub trait Field {
+pub trait Field: Copy {
     // the size, the ground size, the root and its order, and the operations on codes
     ghost meaning: { Self → Arith };
 
-    // whether the value keeps to its meaning: answers and laws are owed of a sound field
-    ghost sound: { Self → Type 0 };
-
     // How many codes there are.
     fn size(&self) -> u16
-        ensures { sound self.now → result ≡ (meaning self.now).size };
+        ensures { result ≡ (meaning self.now).size };
 
     // How many codes are sums of 1: these are the lowest ones.
     fn ground(&self) -> u16
-        ensures { sound self.now → result ≡ (meaning self.now).ground_size };
+        ensures { result ≡ (meaning self.now).ground_size };
 
     // How many powers the root has.
     fn order(&self) -> u16
-        ensures { sound self.now → result ≡ (meaning self.now).order };
+        ensures { result ≡ (meaning self.now).order };
 
     fn root(&self) -> u16
-        ensures { sound self.now → result ≡ (meaning self.now).root };
+        ensures { result ≡ (meaning self.now).root };
 
     fn add(&self, a: u16, b: u16) -> u16
-        ensures { sound self.now → result ≡ (meaning self.now).add a b };
+        ensures { result ≡ (meaning self.now).add a b };
 
     fn neg(&self, a: u16) -> u16
-        ensures { sound self.now → result ≡ (meaning self.now).neg a };
+        ensures { result ≡ (meaning self.now).neg a };
 
     fn mul(&self, a: u16, b: u16) -> u16
-        ensures { sound self.now → result ≡ (meaning self.now).mul a b };
+        ensures { result ≡ (meaning self.now).mul a b };
 
     fn inv(&self, a: u16) -> u16
-        ensures { sound self.now → result ≡ (meaning self.now).inv a };
+        ensures { result ≡ (meaning self.now).inv a };
 
     // `a` to the `exponent`, by squares.
     fn power(&self, a: u16, exponent: u32) -> u16
-        ensures { sound self.now → result ≡ power (meaning self.now).mul a exponent }
+        ensures { result ≡ power (meaning self.now).mul a exponent }
     {
         let mut square = a;
         let mut left = exponent;
@@ -67,5 +64,18 @@ pub trait Field {
         product
     }
 
-    ghost keeps: { (f : Self) → sound f → Laws (meaning f) };
+    // `a` to the size less 2: its inverse, where the powers of the root are all codes but 0.
+    fn inverse_by_power(&self, a: u16) -> u16
+        ensures { suc (meaning self.now).order ≡ (meaning self.now).size → result ≡ (meaning self.now).inv a }
+    {
+        let size = self.size();
+        if a < size {
+            self.power(a, u32::from(size) - 2)
+        } else {
+            0
+        }
+    }
+
+    // What a type that is a field must prove, of all its values.
+    ghost keeps: { (f : Self) → Laws (meaning f) };
 }

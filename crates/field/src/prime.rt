@@ -22,9 +22,7 @@ pub struct PrimeField {
 impl Field for PrimeField {
     ghost meaning = { λ f. modulo f.modulus f.root };
 
-    ghost sound = { λ _. Unit {0} };
-
-    ghost keeps = { λ f _. modulo_laws f.modulus f.root f.low f.high f.inside f.returns };
+    ghost keeps = { λ f. modulo_laws f.modulus f.root f.low f.high f.inside f.returns };
 
     fn size(&self) -> u16 {
         self.modulus
@@ -67,10 +65,6 @@ impl Field for PrimeField {
     }
 
     fn inv(&self, a: u16) -> u16 {
-        if a < self.modulus {
-            self.power(a, u32::from(self.modulus) - 2)
-        } else {
-            0
-        }
+        self.inverse_by_power(a)
     }
 }

@@ -4,7 +4,7 @@
 use console::Desk;
 use std::env;
 use std::fs::File;
-use std::io::{BufRead, BufReader, Read};
+use std::io::{BufRead, BufReader};
 use std::process::ExitCode;
 
 // Answers every line of the standard input, or of the file that the one argument names.
@@ -20,8 +20,7 @@ fn main(rt: HostRuntime) -> ExitCode {
 }
 
 fn run(rt: &HostRuntime) -> anyhow::Result<ExitCode> {
-    let mut args = env::args(rt)?;
-    let _program = args.next();
+    let mut args = env::args(rt)?.skip(1);
     let file = args.next();
     if args.next().is_some() {
         eprintln!(rt; "tagdesk: usage: tagdesk [FILE]")?;
@@ -44,15 +43,11 @@ fn serve_file(rt: &HostRuntime, path: &str) -> anyhow::Result<ExitCode> {
     }
 }
 
-fn serve<R: Read + Drop>(rt: &HostRuntime, mut input: BufReader<R>) -> anyhow::Result<ExitCode> {
+fn serve(rt: &HostRuntime, input: impl BufRead + Drop) -> anyhow::Result<ExitCode> {
     let heap = rt.alloc();
-    let mut desk = Desk::new();
-    for number in 1..u64::MAX {
-        let mut line = Vec::new(heap);
-        if input.read_until(b'\n', &mut line)? == 0 {
-            break;
-        }
-        if let Some(answer) = desk.answer(heap, number, line.as_slice())? {
+    let mut desk = Desk::new(heap);
+    for (number, line) in (1..).zip(input.split(heap, b'\n')) {
+        if let Some(answer) = desk.answer(number, line?.as_slice())? {
             rt.println(answer)?;
         }
     }

@@ -4,8 +4,8 @@
 ghost use Rattle.std.specs.Prelude.{◌≡◌, true};
 ghost use Rattle.worked.specs.Examples.{worked_examples};
 
-use anyhow::anyhow;
-use field::{BinaryField, Fault, Field};
+use anyhow::ensure;
+use field::{BinaryField, Fault, Field, FieldFault};
 use std::io;
 
 fn main(rt: HostRuntime) -> anyhow::Result<()> {
@@ -29,43 +29,38 @@ pub fn definitions_agree(rt: &HostRuntime) -> io::Result<()>
 
 fn powers_of_8(rt: &HostRuntime) -> anyhow::Result<()> {
     let expected = [1, 2, 4, 3, 6, 7, 5];
-    let Ok(field) = BinaryField::open(3, 11) else {
-        return Err(anyhow!("the field of 8 is refused"));
-    };
+    let field = BinaryField::open(3, 11)?;
     let mut power = 1;
     for e in expected {
-        if power != e {
-            return Err(anyhow!("a power of the root in the field of 8 differs"));
-        }
+        ensure!(power == e, "a power of the root in the field of 8 differs");
         power = field.mul(field.root(), power);
     }
-    if power != 1 {
-        return Err(anyhow!("the root of the field of 8 does not return"));
-    }
+    ensure!(power == 1, "the root of the field of 8 does not return");
     println!(rt; "field of 8: powers of the root {expected:?}, and 1 again")?;
     Ok(())
 }
 
-// Degree, polynomial, and the number and the place of the refusal.
-const REFUSED: [(u32, u32, u32, u32); 8] = [
-    (4, 31, 3, 5),
-    (2, 5, 3, 2),
-    (3, 15, 3, 4),
-    (1, 3, 1, 0),
-    (11, 2053, 1, 0),
-    (8, 286, 2, 0),
-    (8, 255, 2, 0),
-    (8, 513, 2, 0),
+// Degree, polynomial, and the fault by which they are refused.
+const REFUSED: [(u32, u32, FieldFault); 8] = [
+    (4, 31, FieldFault::RootOrder(5)),
+    (2, 5, FieldFault::RootOrder(2)),
+    (3, 15, FieldFault::RootOrder(4)),
+    (1, 3, FieldFault::Degree),
+    (11, 2053, FieldFault::Degree),
+    (8, 286, FieldFault::Polynomial),
+    (8, 255, FieldFault::Polynomial),
+    (8, 513, FieldFault::Polynomial),
 ];
 
 fn refused_openings(rt: &HostRuntime) -> anyhow::Result<()> {
-    for (degree, polynomial, number, place) in REFUSED {
-        let Err(fault) = BinaryField::open(degree, polynomial) else {
-            return Err(anyhow!("a field is opened that is to be refused"));
-        };
-        if fault.number() != number || fault.place() != place {
-            return Err(anyhow!("a refusal differs"));
-        }
+    for (degree, polynomial, fault) in REFUSED {
+        let refusal = BinaryField::open(degree, polynomial).err();
+        ensure!(
+            refusal == Some(fault),
+            "a refusal differs: {refusal:?}, not {fault:?}"
+        );
+        let number = fault.number();
+        let place = fault.place();
         println!(rt; "degree {degree}, polynomial {polynomial}: refused {number} at {place}")?;
     }
     Ok(())
@@ -73,10 +68,7 @@ fn refused_openings(rt: &HostRuntime) -> anyhow::Result<()> {
 
 fn supplied_polynomials(rt: &HostRuntime) -> anyhow::Result<()> {
     for degree in 2..=10 {
-        let Ok(field) = BinaryField::standard(degree) else {
-            return Err(anyhow!("a supplied polynomial is refused"));
-        };
-        let size = field.size();
+        let size = BinaryField::standard(degree)?.size();
         println!(rt; "degree {degree}: the supplied polynomial gives a field of {size}")?;
     }
     Ok(())

@@ -1,8 +1,9 @@
 // Codes: what opens and what is refused, generators, the published levels, encodings.
 use algebra::{Alphabet, Design};
-use anyhow::anyhow;
-use code::Code;
+use anyhow::{bail, ensure};
+use code::{Code, CodeFault};
 use field::{AnyField, BinaryField, Fault, Field, PrimeField};
+use std::fmt;
 
 // A field by the supplied polynomial of a degree, or the prime field.
 #[derive(Clone, Copy)]
@@ -13,13 +14,10 @@ enum Base {
 
 impl Base {
     fn open(self) -> anyhow::Result<AnyField> {
-        match self {
-            Base::Binary(degree) => match BinaryField::standard(degree) {
-                Ok(field) => Ok(AnyField::Binary(field)),
-                Err(_) => Err(anyhow!("a field of the examples is refused")),
-            },
-            Base::Prime => Ok(AnyField::Prime(PrimeField::open())),
-        }
+        Ok(match self {
+            Base::Binary(degree) => AnyField::Binary(BinaryField::standard(degree)?),
+            Base::Prime => AnyField::Prime(PrimeField::open()),
+        })
     }
 }
 
@@ -38,24 +36,19 @@ impl Example {
         }
     }
 
-    fn open(self) -> anyhow::Result<(AnyField, Code)> {
-        let field = self.0.open()?;
-        match Code::open(&field, self.design()) {
-            Ok(code) => Ok((field, code)),
-            Err(_) => Err(anyhow!("a code of the examples is refused")),
-        }
+    fn open(self) -> anyhow::Result<Code<AnyField>> {
+        Ok(Code::open(self.0.open()?, self.design())?)
     }
+}
 
-    // The beginning of a line about it.
-    fn introduce(self, rt: &HostRuntime) -> anyhow::Result<()> {
-        let size = self.0.open()?.size();
+impl fmt::Display for Example {
+    fn fmt<W: fmt::Write>(&self, f: &mut fmt::Formatter<W>) -> fmt::Result {
         let alphabet = match self.1 {
             Alphabet::Whole => "whole",
             Alphabet::Ground => "ground",
         };
         let [length, first, distance] = self.2;
-        print!(rt; "field of {size}, {alphabet}, n {length}, b {first}, distance {distance}: ")?;
-        Ok(())
+        write!(f, "{alphabet}, n {length}, b {first}, distance {distance}")
     }
 }
 
@@ -67,48 +60,71 @@ const OPENED: [Example; 4] = [
     Example(Base::Prime, Alphabet::Whole, [255, 1, 33]),
 ];
 
-// Codes that are refused, with the number and the place of the refusal.
-const REFUSED: [(Example, [u32; 2]); 11] = [
-    (Example(Base::Binary(3), Alphabet::Whole, [8, 1, 3]), [4, 0]),
-    (Example(Base::Binary(3), Alphabet::Whole, [1, 1, 3]), [4, 0]),
-    (Example(Base::Prime, Alphabet::Whole, [256, 928, 2]), [4, 0]),
-    (Example(Base::Binary(3), Alphabet::Whole, [7, 7, 3]), [5, 0]),
-    (Example(Base::Prime, Alphabet::Whole, [255, 1, 34]), [6, 0]),
-    (Example(Base::Binary(3), Alphabet::Whole, [7, 1, 2]), [6, 0]),
-    (Example(Base::Binary(3), Alphabet::Whole, [3, 1, 4]), [7, 3]),
-    (Example(Base::Prime, Alphabet::Whole, [3, 1, 4]), [7, 3]),
+// Codes that are refused, and why.
+const REFUSED: [(Example, CodeFault); 11] = [
+    (
+        Example(Base::Binary(3), Alphabet::Whole, [8, 1, 3]),
+        CodeFault::Length,
+    ),
+    (
+        Example(Base::Binary(3), Alphabet::Whole, [1, 1, 3]),
+        CodeFault::Length,
+    ),
+    (
+        Example(Base::Prime, Alphabet::Whole, [256, 928, 2]),
+        CodeFault::Length,
+    ),
+    (
+        Example(Base::Binary(3), Alphabet::Whole, [7, 7, 3]),
+        CodeFault::FirstExponent,
+    ),
+    (
+        Example(Base::Prime, Alphabet::Whole, [255, 1, 34]),
+        CodeFault::Distance,
+    ),
+    (
+        Example(Base::Binary(3), Alphabet::Whole, [7, 1, 2]),
+        CodeFault::Distance,
+    ),
+    (
+        Example(Base::Binary(3), Alphabet::Whole, [3, 1, 4]),
+        CodeFault::Redundancy(3),
+    ),
+    (
+        Example(Base::Prime, Alphabet::Whole, [3, 1, 4]),
+        CodeFault::Redundancy(3),
+    ),
     (
         Example(Base::Binary(3), Alphabet::Whole, [7, 1, 33]),
-        [7, 7],
+        CodeFault::Redundancy(7),
     ),
     (
         Example(Base::Binary(2), Alphabet::Whole, [2, 1, 33]),
-        [7, 3],
+        CodeFault::Redundancy(3),
     ),
     (
         Example(Base::Binary(3), Alphabet::Ground, [5, 2, 3]),
-        [7, 6],
+        CodeFault::Redundancy(6),
     ),
 ];
 
 pub(crate) fn openings(rt: &HostRuntime) -> anyhow::Result<()> {
     for example in OPENED {
-        let (_, code) = example.open()?;
-        example.introduce(rt)?;
+        let code = example.open()?;
+        let size = code.field.size();
         let exponents = code.exponents();
-        println!(rt; "opens, exponents {exponents:?}")?;
+        println!(rt; "field of {size}, {example}: opens, exponents {exponents:?}")?;
     }
-    for (example, told) in REFUSED {
+    for (example, expected) in REFUSED {
         let field = example.0.open()?;
-        let Err(fault) = Code::open(&field, example.design()) else {
-            return Err(anyhow!("a code is opened that is to be refused"));
+        let Err(fault) = Code::open(field, example.design()) else {
+            bail!("a code is opened that is to be refused");
         };
-        if [fault.number(), fault.place()] != told {
-            return Err(anyhow!("a refusal differs"));
-        }
-        example.introduce(rt)?;
-        let [number, place] = told;
-        println!(rt; "refused {number} at {place}, {fault}")?;
+        ensure!(fault == expected, "a refusal differs");
+        let size = field.size();
+        let number = fault.number();
+        let place = fault.place();
+        println!(rt; "field of {size}, {example}: refused {number} at {place}, {fault}")?;
     }
     Ok(())
 }
@@ -134,12 +150,13 @@ const GENERATORS: [(Example, usize, &[u16]); 3] = [
 
 pub(crate) fn generators(rt: &HostRuntime) -> anyhow::Result<()> {
     for (example, k, generator) in GENERATORS {
-        let (_, code) = example.open()?;
-        if code.dimension() != k || code.generator() != generator {
-            return Err(anyhow!("a generator differs"));
-        }
-        example.introduce(rt)?;
-        println!(rt; "k {k}, generator {generator:?}")?;
+        let code = example.open()?;
+        ensure!(
+            code.dimension() == k && code.generator() == generator,
+            "a generator differs"
+        );
+        let size = code.field.size();
+        println!(rt; "field of {size}, {example}: k {k}, generator {generator:?}")?;
     }
     Ok(())
 }
@@ -163,13 +180,14 @@ pub(crate) fn published_levels(rt: &HostRuntime) -> anyhow::Result<()> {
     for (level, published) in LEVELS.iter().enumerate() {
         let count = published.len();
         let distance = 1 + count as u32;
-        let (_, code) = Example(Base::Prime, Alphabet::Whole, [255, 1, distance]).open()?;
+        let code = Example(Base::Prime, Alphabet::Whole, [255, 1, distance]).open()?;
         let Some((1, below)) = code.generator().split_first() else {
-            return Err(anyhow!("a generator does not begin with 1"));
+            bail!("a generator does not begin with 1");
         };
-        if !below.iter().rev().eq(published.iter()) {
-            return Err(anyhow!("a published level differs"));
-        }
+        ensure!(
+            below.iter().rev().eq(published.iter()),
+            "a published level differs"
+        );
         println!(rt; "level {level}: {count} coefficients as published in ISO/IEC 15438")?;
     }
     Ok(())
@@ -211,61 +229,58 @@ const MOST_CHECK_VALUES: usize = 32;
 
 // Whether `front` was written to the memory, and nothing behind it.
 fn holds(memory: &[u16], front: &[u16]) -> bool {
-    for i in front.len()..memory.len() {
-        if memory[i] != KEPT {
-            return false;
-        }
+    match memory.strip_prefix(front) {
+        Some(rest) => rest.iter().all(|symbol| *symbol == KEPT),
+        None => false,
     }
-    memory.starts_with(front)
 }
 
 pub(crate) fn encodings(rt: &HostRuntime) -> anyhow::Result<()> {
     for (example, message, codeword) in ENCODINGS {
-        let (field, code) = example.open()?;
+        let code = example.open()?;
         let mut buffer = [KEPT; 16];
-        if code.encode(&field, message, &mut buffer).is_err() {
-            return Err(anyhow!("an encoding is refused"));
-        }
-        if !holds(&buffer, codeword) {
-            return Err(anyhow!("an encoding differs"));
-        }
+        code.encode(message, &mut buffer)?;
+        ensure!(holds(&buffer, codeword), "an encoding differs");
         let mut values = [KEPT; MOST_CHECK_VALUES];
-        if code.check_values(&field, codeword, &mut values).is_err() {
-            return Err(anyhow!("check values are refused"));
-        }
+        code.check_values(codeword, &mut values)?;
         let count = code.distance().saturating_sub(1).min(MOST_CHECK_VALUES);
-        if !holds(&values, &[0; MOST_CHECK_VALUES][0..count]) {
-            return Err(anyhow!("a check value of a codeword is not 0"));
-        }
-        example.introduce(rt)?;
-        println!(rt; "{message:?} encodes to {codeword:?}")?;
+        ensure!(
+            holds(&values, &[0; MOST_CHECK_VALUES][0..count]),
+            "a check value of a codeword is not 0"
+        );
+        let size = code.field.size();
+        println!(rt; "field of {size}, {example}: {message:?} encodes to {codeword:?}")?;
     }
     Ok(())
 }
 
-// Messages that are not encoded: how long the buffer is, and the number and the place of the refusal.
-const REFUSED_MESSAGES: [(&[u16], usize, [u32; 2]); 5] = [
-    (&[0, 0, 0, 0], 7, [9, 0]),
-    (&[0, 0, 0, 0, 0, 8], 6, [9, 0]),
-    (&[0, 0, 8, 0, 9], 7, [10, 2]),
-    (&[8, 0, 0, 0, 0], 6, [10, 0]),
-    (&[0, 0, 0, 0, 0], 6, [16, 0]),
+// Messages that are not encoded: how long the buffer is, and why.
+const REFUSED_MESSAGES: [(&[u16], usize, CodeFault); 5] = [
+    (&[0, 0, 0, 0], 7, CodeFault::WordLength),
+    (&[0, 0, 0, 0, 0, 8], 6, CodeFault::WordLength),
+    (&[0, 0, 8, 0, 9], 7, CodeFault::Symbol(2)),
+    (&[8, 0, 0, 0, 0], 6, CodeFault::Symbol(0)),
+    (&[0, 0, 0, 0, 0], 6, CodeFault::Room),
 ];
 
 pub(crate) fn refused_encodings(rt: &HostRuntime) -> anyhow::Result<()> {
     let example = Example(Base::Binary(3), Alphabet::Whole, [7, 1, 3]);
-    let (field, code) = example.open()?;
-    for (message, room, told) in REFUSED_MESSAGES {
+    let code = example.open()?;
+    let size = code.field.size();
+    for (message, room, expected) in REFUSED_MESSAGES {
         let mut memory = [KEPT; 7];
-        let Err(fault) = code.encode(&field, message, &mut memory[0..room.min(7)]) else {
-            return Err(anyhow!("an encoding is answered that is to be refused"));
+        let Err(fault) = code.encode(message, &mut memory[0..room.min(7)]) else {
+            bail!("an encoding is answered that is to be refused");
         };
-        if [fault.number(), fault.place()] != told || !holds(&memory, &[]) {
-            return Err(anyhow!("a refused encoding differs"));
-        }
-        let [number, place] = told;
-        example.introduce(rt)?;
-        println!(rt; "{message:?} into {room} places is refused {number} at {place}")?;
+        ensure!(
+            fault == expected && holds(&memory, &[]),
+            "a refused encoding differs"
+        );
+        let number = fault.number();
+        let place = fault.place();
+        println!(rt;
+            "field of {size}, {example}: {message:?} into {room} places is refused {number} at {place}"
+        )?;
     }
     Ok(())
 }

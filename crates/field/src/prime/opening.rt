@@ -1,7 +1,8 @@
 ghost use Rattle.std.specs.Prelude.{◌≡◌};
+ghost use Rattle.algebra.specs.Arith.{Laws};
 ghost use Rattle.algebra.specs.Codes.{modulo};
-ghost use Rattle.field.specs.contracts.prime.PrimeFieldField.TheImpl.{ghosts as prime};
 
+use crate::Field;
 use crate::prime::PrimeField;
 
 const MODULUS: u16 = 929;
@@ -11,8 +12,8 @@ const ROOT: u16 = 3;
 impl PrimeField {
     // The field modulo 929 with the root 3.
     pub fn open() -> PrimeField
-        ensures meaning { prime.meaning result ≡ modulo 929 3 }
-        ensures sound { prime.sound result }
+        ensures meaning { ⟦<PrimeField as Field>⟧.meaning result ≡ modulo 929 3 }
+        ensures sound { Laws (⟦<PrimeField as Field>⟧.meaning result) }
     {
         PrimeField {
             modulus: MODULUS,

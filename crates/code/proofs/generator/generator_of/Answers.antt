@@ -1,4 +1,4 @@
-use Rattle.std.proofs.Common.{◌≡◌, suc, map, length, get_or, take, sym, ap, ◌∙◌, ap₂, arith, rules}
+use Rattle.std.proofs.Common.{◌≡◌, suc, map, length, take, sym, ◌∙◌, ap₂, arith, rules}
 use Rattle.std.proofs.lemmas.List.{places, drop_all}
 use Rattle.algebra.specs.Arith.{power}
 use Rattle.algebra.specs.Words.{times_factors}
@@ -12,11 +12,10 @@ loop-i-preserved g c =
     let i = c.loop-i.i in
     let size = c.loop-i.invariant.0 in (
       search (rules, places),
-      λ s.
-          factor_turn A c.power-point.result c.loop-i.product c.multiply_by_factor.new.word _ c.args.exponents.now i _ (omega arith) (omega arith) (omega arith)
-          (c.power-point.ensures s ∙ ap (λ root. power A.mul root (get_or c.args.exponents.now i 0)) (c.root-root.ensures s))
-          (c.multiply_by_factor.ensures s)
-          ∙ c.loop-i.invariant.1 s,
+      factor_turn A c.power-point.result c.loop-i.product c.multiply_by_factor.new.word _ c.args.exponents.now i _ (omega arith) (omega arith) (omega arith)
+          (c.power-point.ensures ∙ ap₂ (power A.mul) c.root-root.ensures c.from.ensures)
+          c.multiply_by_factor.ensures
+          ∙ c.loop-i.invariant.1,
     )
 
 pub returns : goal.returns
@@ -26,6 +25,6 @@ returns g c =
     let end : c.loop-i.i ≡ length es = omega arith in
     record {
       size = c.loop-i.invariant.0;
-      product = λ s.
-          ap₂ (λ n left. times_factors (ops A) (take (suc n) c.loop-i.product) (map (root_power A) left)) (sym end) (sym (drop_all c.loop-i.i es (omega arith))) ∙ c.loop-i.invariant.1 s;
+      product =
+          ap₂ (λ n left. times_factors (ops A) (take (suc n) c.loop-i.product) (map (root_power A) left)) (sym end) (sym (drop_all c.loop-i.i es (omega arith))) ∙ c.loop-i.invariant.1;
     }

@@ -8,4 +8,4 @@ abbrev pub invariant-loop-i : goal.invariant-loop-i
 invariant-loop-i g l =
     let A = g.F.Field.meaning l.field in
     (length l.product ≡ 255)
-    × (g.F.Field.sound l.field → times_factors (ops A) (take (suc l.i) l.product) (map (root_power A) (drop l.i l.exponents)) ≡ times_factors (ops A) (1 ∷ []) (map (root_power A) l.exponents))
+    × (times_factors (ops A) (take (suc l.i) l.product) (map (root_power A) (drop l.i l.exponents)) ≡ times_factors (ops A) (1 ∷ []) (map (root_power A) l.exponents))

@@ -7,4 +7,4 @@ use Rattle.code.proofs.words.divide.Given as goal
 abbrev pub invariant-loop-i : goal.invariant-loop-i
 invariant-loop-i g l =
     let o = ops (g.F.Field.meaning l.field) in
-    g.F.Field.sound l.field → remainder o (l.steps - l.i) l.divisor (drop l.i l.word) ≡ remainder o l.steps l.divisor l.initial.word
+    remainder o (l.steps - l.i) l.divisor (drop l.i l.word) ≡ remainder o l.steps l.divisor l.initial.word

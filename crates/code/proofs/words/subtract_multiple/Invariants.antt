@@ -3,7 +3,7 @@ use Rattle.algebra.specs.Words.{less}
 use Rattle.algebra.specs.BlockCode.{ops}
 use Rattle.code.proofs.words.subtract_multiple.Given as goal
 
-abbrev pub invariant-loop-i : goal.invariant-loop-i
-invariant-loop-i g l =
+abbrev pub invariant-loop-symbol : goal.invariant-loop-symbol
+invariant-loop-symbol g l =
     let A = g.F.Field.meaning l.field in
-    g.F.Field.sound l.field → take l.i l.word ++ less (ops A) l.factor (drop l.i l.word) (drop l.i l.other) ≡ less (ops A) l.factor l.initial.word l.other
+    take l.symbol-index l.word ++ less (ops A) l.factor (drop l.symbol-index l.word) l.others.rest.now ≡ less (ops A) l.factor l.initial.word l.other

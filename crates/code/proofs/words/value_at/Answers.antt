@@ -1,17 +1,15 @@
-use Rattle.std.proofs.Common.{sym, ◌∙◌, arith}
-use Rattle.std.proofs.lemmas.Bool.{eqb-true, eqb-false}
-use Rattle.code.proofs.Valuing.{horner_turn, value_of_none, value_by_horner}
+use Rattle.std.proofs.Common.{rules, ◌≡◌, ◌<◌, ◌∷◌, sym, ap, ◌∙◌, subst}
+use Rattle.std.specs.List.{AllByRecursion}
+use Rattle.std.proofs.iter.runs.Made.{chains}
+use Rattle.algebra.specs.Words.{value}
+use Rattle.algebra.specs.BlockCode.{ops}
+use Rattle.algebra.proofs.Horner.{horner, horner_value}
 use Rattle.code.proofs.words.value_at.Goals as goal
 
-pub returns-then-is_empty : goal.returns-then-is_empty
-returns-then-is_empty g c s hx all = value_of_none (g.F.Field.meaning c.args.field.now) c.args.x c.args.word.now (eqb-true _ _ (sym c.if-is_empty.ensures))
-
-pub loop-i-preserved : goal.loop-i-preserved
-loop-i-preserved g c s =
-    horner_turn (g.F.Field.meaning c.args.field.now) c.args.x c.args.word.now c.loop-i.i c.loop-i.sum _ _ (omega arith) (c.mul.ensures s) (c.add-sum.ensures s)
-    ∙ c.loop-i.invariant s
-
 pub returns : goal.returns
-returns g c s hx all =
-    value_by_horner (g.F.Field.meaning c.args.field.now) c.args.x (g.met.F.Field.keeps c.args.field.now s) c.args.word.now c.loop-i.i c.loop-i.sum
-    (eqb-false _ _ (sym c.if-is_empty.ensures)) (omega arith) hx all (c.loop-i.invariant s)
+returns g c hx all =
+    let A = g.F.Field.meaning c.args.field.now in
+    let L = g.met.F.Field.keeps c.args.field.now in
+    let whole : c.args.word.now ≡ c.in-Some.first.now ∷ c.in-Some.rest.now = search rules in
+    let folded : c.fold.result ≡ horner A c.args.x c.in-Some.first.now c.in-Some.rest.now = search (rules, chains) in
+    folded ∙ horner_value A L c.args.x _ _ hx (subst (AllByRecursion (λ s. s < A.size)) whole all) ∙ ap (λ w. value (ops A) w c.args.x) (sym whole)

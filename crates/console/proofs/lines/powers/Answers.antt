@@ -1,14 +1,10 @@
-use Rattle.std.proofs.Common.{[], ◌∷◌, ◌++◌, sym, ap, ◌∙◌, ap₂, add-one, arith}
-use Rattle.std.proofs.lemmas.List.FromFn.{map-range_with_len_more}
-use Rattle.algebra.specs.Arith.{power}
+use Rattle.std.proofs.Common.{◌≡◌, ◌∙◌, rules}
+use Rattle.std.proofs.lemmas.Result.{IfOk-weaker}
+use Rattle.console.proofs.Powers.{taken_powers}
 use Rattle.console.proofs.lines.powers.Goals as goal
 
-pub loop-i-preserved : goal.loop-i-preserved
-loop-i-preserved g c s =
+pub returns : goal.returns
+returns g c =
     let A = g.F.Field.meaning c.args.field.now in
-    let i = c.loop-i._i in
-    let was = c.loop-i.invariant s in
-    let items = c.in_ok-push.ensures.items in (
-      c.mul-power.ensures s ∙ ap₂ A.mul (c.root-root.ensures s) was.0 ∙ ap (power A.mul A.root) (sym (add-one i)),
-      items ∙ ap₂ (λ l x. l ++ (x ∷ [])) was.1 was.0 ∙ sym (map-range_with_len_more (power A.mul A.root) 0 i i (omega arith)),
-    )
+    let count : c.from.result ≡ A.order = c.from.ensures ∙ c.order.ensures in
+    IfOk-weaker c.collect.result _ _ (λ v w. taken_powers A.mul A.root A.order c.successors.ensures.runs c.take.ensures.runs count (record { keeps = λ a r f' e. search rules; answers = λ x r e. search rules }) (w tt)) c.collect.ensures.runs

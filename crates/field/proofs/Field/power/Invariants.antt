@@ -5,7 +5,7 @@ use Rattle.field.proofs.Field.power.Given as goal
 abbrev pub invariant-loop-left : goal.invariant-loop-left
 invariant-loop-left g l =
     let A = g.Self.Field.meaning l.self in
-    g.Self.Field.sound l.self → (l.product < A.size) × (A.mul l.product (power A.mul l.square l.left) ≡ power A.mul l.a l.exponent)
+    (l.product < A.size) × (A.mul l.product (power A.mul l.square l.left) ≡ power A.mul l.a l.exponent)
 
 abbrev pub decreases-loop-left : goal.decreases-loop-left
 decreases-loop-left g l = l.left

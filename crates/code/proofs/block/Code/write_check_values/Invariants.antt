@@ -2,12 +2,12 @@ use Rattle.std.proofs.Common.{◌≡◌, ◌+◌, ◌<◌, map, take}
 use Rattle.std.specs.List.{range_with_len, AllByRecursion}
 use Rattle.algebra.specs.Words.{value}
 use Rattle.algebra.specs.BlockCode.{ops, root_power}
-use Rattle.code.specs.Opened.{Opened}
 use Rattle.code.proofs.block.Code.write_check_values.Given as goal
 
-abbrev pub invariant-loop-i : goal.invariant-loop-i
-invariant-loop-i g l =
-    let A = g.F.Field.meaning l.field in
+abbrev pub invariant-loop-value : goal.invariant-loop-value
+invariant-loop-value g l =
+    let A = g.F.Field.meaning l.self.field in
     let b = l.self.design.first in
-    g.F.Field.sound l.field → Opened A l.self → AllByRecursion (λ s. s < A.size) l.word
-    → (l.point ≡ root_power A (b + l.i)) × (take l.i l.list ≡ map (λ j. value (ops A) l.word (root_power A (b + j))) (range_with_len 0 l.i))
+    let i = l.value-index in
+    AllByRecursion (λ s. s < A.size) l.word
+    → (l.point ≡ root_power A (b + i)) × (take i l.list ≡ map (λ j. value (ops A) l.word (root_power A (b + j))) (range_with_len 0 i))

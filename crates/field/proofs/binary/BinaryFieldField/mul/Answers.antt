@@ -6,16 +6,17 @@ use Rattle.field.proofs.binary.BinaryFieldField.mul.Goals.{then-b-i-eq1, else-b-
 
 pub loop-i-init : goal.loop-i-init
 loop-i-init c =
-    let f = c.args.self.now in
-    (omega (arith, c.size-size.ensures tt), refl, partial_none f.degree f.polynomial c.args.a c.args.b)
+    let p = c.args.self.now.polynomial in
+    (omega (arith, c.size-size.ensures), refl, partial_none p.degree p.bits c.args.a c.args.b)
 
 pub loop-i-preserved : goal.loop-i-preserved
 loop-i-preserved c =
-    let m = c.args.self.now.degree in
-    let P = c.args.self.now.polynomial in
+    let p = c.args.self.now.polynomial in
+    let m = p.degree in
+    let P = p.bits in
     let l = c.loop-i in (
       c.times_x-shifted.ensures.code,
-      c.times_x-shifted.ensures.product ∙ root_raises m P c.args.self.now.shape l.shifted l.invariant.0
+      c.times_x-shifted.ensures.product ∙ root_raises m P p.shape l.shifted l.invariant.0
           ∙ raised_more m P c.args.a c.args.b l.i l.shifted l.invariant.1,
       elim c.if-b-i-eq1.branch [
         | then-b-i-eq1 w ↦ w.product-is ∙ partial_term m P c.args.a c.args.b l.i l.shifted l.product w.if-b-i-eq1.true l.invariant.1 l.invariant.2
@@ -24,11 +25,11 @@ loop-i-preserved c =
     )
 
 pub returns : goal.returns
-returns c s =
-    let f = c.args.self.now in
+returns c =
+    let p = c.args.self.now.polynomial in
     let a = c.args.a in
     let b = c.args.b in
-    let size = c.size-size.ensures tt in
-    let ha : a < 2 ^ f.degree = omega arith in
-    let hb : b < 2 ^ f.degree = omega arith in
-    c.loop-i.invariant.2 ∙ partial_all f.degree f.polynomial a b c.loop-i.i (omega arith) ha ∙ sym (mul_is f.degree f.polynomial f.shape a b ha hb)
+    let size = c.size-size.ensures in
+    let ha : a < 2 ^ p.degree = omega arith in
+    let hb : b < 2 ^ p.degree = omega arith in
+    c.loop-i.invariant.2 ∙ partial_all p.degree p.bits a b c.loop-i.i (omega arith) ha ∙ sym (mul_is p.degree p.bits p.shape a b ha hb)
