@@ -1,10 +1,11 @@
 -- The binary field by P, of degree m, is a ring, and a field where the powers of x first return to 1 at 2^m - 1.
 use Rattle.std.proofs.Common.{◌≡◌, ℕ, ◌-◌, ◌^◌, ◌<◌, ◌≤◌, refl, ◌∙◌, arith, pow_mono}
 use lib.Bits.{bit_xor, xor_lt, xor_comm, xor_assoc, xor_zero_r, xor_self}
+use Rattle.std.proofs.lemmas.Bool.Decides.{nat_tests}
 use Rattle.algebra.specs.Arith.{Ring, Laws}
 use Rattle.algebra.specs.Search.{Returns}
 use Rattle.algebra.specs.Binary.{binary, Shape}
-use Rattle.algebra.proofs.Guarded.{guarded_in, ring_on_codes}
+use Rattle.algebra.proofs.Guarded.{ring_on_codes}
 use Rattle.algebra.proofs.Cyclic.{field_laws}
 use Rattle.algebra.proofs.Polynomials.{raise, reduced, reduced_below, reduced_comm, reduced_one, reduced_assoc, reduced_right, power_reduced}
 
@@ -28,7 +29,7 @@ module _ (m P : ℕ) (shape : Shape m P) where
   })
 
   pub mul_is : (a b : ℕ) → a < 2 ^ m → b < 2 ^ m → (binary m P).mul a b ≡ reduced m P a b
-  mul_is = guarded_in (2 ^ m) (reduced m P)
+  mul_is a b ha hb = grind (arith, nat_tests)
 
   -- the product by the root is the product by x
   pub root_raises : (a : ℕ) → a < 2 ^ m → (binary m P).mul 2 a ≡ raise m P a
@@ -37,7 +38,6 @@ module _ (m P : ℕ) (shape : Shape m P) where
   pub binary_laws : Returns ((binary m P).mul 2) (2 ^ m - 1) → Laws (binary m P)
   binary_laws ret =
       let four = four_codes in
-      let sum = guarded_in (2 ^ m) bit_xor in
       field_laws (binary m P) binary_ring (omega arith) ret (omega arith) (λ a. refl) (omega arith) (omega arith)
-      (λ a h. let z : a ≡ 0 = omega arith in rw z (sum 0 1 (omega arith) (omega arith)))
-      (λ a h. let z : a ≡ 1 = omega arith in rw z (sum 1 1 (omega arith) (omega arith)))
+      (λ a h. let z : a ≡ 0 = omega arith in rw z (grind (arith, nat_tests)))
+      (λ a h. let z : a ≡ 1 = omega arith in rw z (grind (arith, nat_tests)))

@@ -1,5 +1,5 @@
 -- What an accepted code is: its dimension, its reach, and its generator, of length r + 1, which begins with 1 and is 0 at the exponents.
-use Rattle.std.proofs.Common.{◌≡◌, ℕ, suc, ◌+◌, ◌-◌, ◌%◌, ◌<◌, ◌≤◌, ◌⊎◌, List, [], ◌∷◌, map, length, get_or, drop, sym, refl, ap, ◌∙◌, inl, inr, arith}
+use Rattle.std.proofs.Common.{◌≡◌, ℕ, suc, ◌+◌, ◌-◌, ◌%◌, ◌<◌, ◌≤◌, List, [], ◌∷◌, map, length, get_or, drop, sym, refl, ap, ◌∙◌, inl, inr, arith}
 use native.Mathlib.Nat as nat
 use lib.ListN.{length-map}
 use Rattle.std.proofs.lemmas.Bool.{cases_lt}
@@ -11,8 +11,7 @@ use Rattle.algebra.specs.declared.Design.{Design}
 use Rattle.algebra.proofs.Pigeon.{no_room}
 use Rattle.algebra.proofs.Members.{place, at_place}
 use Rattle.algebra.proofs.Elements.{Element, element, codes, on_elements, elements_ring, code_pow, pow_is_power, code_value, codes-times_factors, code_factors}
-use Rattle.algebra.proofs.WordValues.{length-times_factors, value-times_factors, begins, factors_root}
-use Rattle.algebra.proofs.AbstractRing.{one-mul}
+use Rattle.algebra.proofs.WordValues.{length-times_factors, value_product, begins, factors_root}
 use Rattle.algebra.proofs.Exponents.{exponents_smallest}
 
 pub generator_length : (A : Arith) (D : Design) → length (generator A D) ≡ suc (redundancy A D)
@@ -20,21 +19,9 @@ unfolding generator
 generator_length A D =
     length-times_factors (ops A) (1 ∷ []) (map (root_power A) (exponents A D)) ∙ ap (λ n. 1 + n) (length-map (exponents A D) (root_power A)) ∙ omega arith
 
--- a number below 2N modulo N: itself, or N less
-modulo-cases : (N m : ℕ) → m < N + N → ((m < N) × (m % N ≡ m)) ⊎ ((N ≤ m) × (m % N ≡ m - N))
-modulo-cases N m h =
-    elim (cases_lt m N) [
-      | inl l ↦ inl (l, nat.mod-eq_of_lt l)
-      | inr l ↦ let s : m - N < N = omega arith in inr (l, nat.mod-eq-sub-mod l ∙ nat.mod-eq_of_lt s)
-    ]
-
 -- b and two different numbers below N do not make the same sum modulo N
 sums_differ : (N b i j : ℕ) → b < N → i < N → j < N → (b + i) % N ≡ (b + j) % N → i ≡ j
-sums_differ N b i j hb hi hj e =
-    elim (modulo-cases N (b + i) (omega arith)) [
-      | inl p ↦ elim (modulo-cases N (b + j) (omega arith)) [ inl q ↦ omega arith | inr q ↦ omega arith ]
-      | inr p ↦ elim (modulo-cases N (b + j) (omega arith)) [ inl q ↦ omega arith | inr q ↦ omega arith ]
-    ]
+sums_differ N b i j hb hi hj e = grind (arith, cases_lt (b + i) N, cases_lt (b + j) N, nat.mod-eq_of_lt, nat.mod-eq-sub-mod)
 
 module _ (A : Arith) (L : Laws A) where
   abbrev pub root_element : Element A
@@ -42,7 +29,7 @@ module _ (A : Arith) (L : Laws A) where
 
   codes_powers : (es : List ℕ) → codes (map (pow (on_elements A L.ring) root_element) es) ≡ map (root_power A) es
   codes_powers [] = refl
-  codes_powers (e ∷ es) = λ i. (code_pow A L.ring root_element e ∙ pow_is_power A A.root e) i ∷ codes_powers es i
+  codes_powers (e ∷ es) = cc (code_pow A L.ring root_element e, pow_is_power A A.root e, codes_powers es)
 
   module _ (D : Design) where
     -- the generator's roots, and the generator but for its first coefficient, as elements
@@ -59,27 +46,18 @@ module _ (A : Arith) (L : Laws A) where
         ap (times_factors (ops A) (1 ∷ [])) (sym (codes_powers (exponents A D))) ∙ sym (codes-times_factors A L.ring (o.one ∷ []) roots)
         ∙ ap codes (begins (elements_ring A L.ring) [] roots)
 
-    tail_value : (x : Element A) → let o = on_elements A L.ring in value o (o.one ∷ generator_tail) x ≡ factors o roots x
-    tail_value x =
-        let o = on_elements A L.ring in
-        let F = elements_ring A L.ring in
-        ap (λ w. value o w x) (sym (begins F [] roots)) ∙ value-times_factors F (o.one ∷ []) roots x
-        ∙ ap (λ v. o.mul v (factors o roots x)) (F.add-zero (o.mul o.one o.one) ∙ F.mul-one o.one) ∙ one-mul F (factors o roots x)
-
     -- the generator is 0 at the exponents
     pub tail_root : (e : ℕ) → Member e (exponents A D) → let o = on_elements A L.ring in value o (o.one ∷ generator_tail) (pow o root_element e) ≡ o.zero
     tail_root e m =
         let power = pow (on_elements A L.ring) root_element in
-        tail_value (power e) ∙ factors_root (elements_ring A L.ring) power (exponents A D) e m
-
-    generator_begins : get_or (generator A D) 0 0 ≡ 1
-    generator_begins = ap (λ w. get_or w 0 0) generator_is
+        value_product (elements_ring A L.ring) roots (power e) ∙ factors_root (elements_ring A L.ring) power (exponents A D) e m
 
     generator_value : (x : ℕ) → x < A.size → value (ops A) (generator A D) x ≡ factors (ops A) (map (root_power A) (exponents A D)) x
     generator_value x l =
         let R = L.ring in
-        ap (λ w. value (ops A) w x) generator_is ∙ sym (code_value A R ((on_elements A R).one ∷ generator_tail) (element x l))
-        ∙ ap (λ v. v.code) (tail_value (element x l)) ∙ code_factors A R roots (element x l) ∙ ap (λ w. factors (ops A) w x) (codes_powers (exponents A D))
+        let X : Element A = element x l in
+        let whole = code_value A R ((on_elements A R).one ∷ generator_tail) X in
+        cc (generator_is, whole, value_product (elements_ring A R) roots X, code_factors A R roots X, codes_powers (exponents A D))
 
     -- the run has δ − 1 numbers, all different and all in the exponent set
     run_fits : D.first < A.order → redundancy A D < A.order → D.distance - 1 ≤ redundancy A D
@@ -106,6 +84,6 @@ module _ (A : Arith) (L : Laws A) where
           reach_most = omega arith;
           distance_most = omega arith;
           generator_long = generator_length A D;
-          generator_first = generator_begins;
+          generator_first = ap (λ w. get_or w 0 0) generator_is;
           generator_value = generator_value;
         }

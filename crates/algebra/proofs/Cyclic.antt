@@ -1,7 +1,8 @@
 -- A ring of codes whose root's powers first return to 1 at size - 1 is a field: the root's powers are all codes but 0,
 -- so a ^ (size - 2) is the inverse of a.
-use Rattle.std.proofs.Common.{◌≡◌, ℕ, zero, suc, ◌-◌, ◌<◌, ◌≤◌, true, eqb, sym, refl, ap, ◌∙◌, inl, inr, arith}
+use Rattle.std.proofs.Common.{◌≡◌, ℕ, zero, suc, ◌-◌, ◌<◌, ◌≤◌, eqb, ap, ◌∙◌, inl, inr, arith}
 use Rattle.std.proofs.lemmas.Bool.{cases_eq, eqb-true, eq-eqb}
+use Rattle.std.proofs.lemmas.Bool.Decides.{nat_tests}
 use Rattle.algebra.specs.Arith.{Arith, Ring, Laws, power}
 use Rattle.algebra.specs.Codes.{inverse}
 use Rattle.algebra.specs.Search.{Returns}
@@ -11,47 +12,29 @@ use Rattle.algebra.proofs.Powers.{one_code, zero_code, power_code, mul_comm, mul
 
 module _ (A : Arith) (R : Ring A) where
   -- what makes 1 with a is its inverse, since there is only one such code
+  one_inverse : (a b c : ℕ) → b < A.size → c < A.size → A.mul a b ≡ 1 → A.mul a c ≡ 1 → c ≡ b
+  one_inverse a b c hb hc e f = grind (arith, one-mul A R c, R.mul-one b hb, mul_comm A R, mul_assoc A R)
+
   inverse_is : (a b : ℕ) → b < A.size → A.mul a b ≡ 1 → inverse A.size A.mul a ≡ b
-  inverse_is a b hb e = first_is (λ c. eqb (A.mul a c) 1) A.size 0 b (omega arith) (omega arith) (eq-eqb _ _ e) before
-    where
-      before : (c : ℕ) → 0 ≤ c → c < b → eqb (A.mul a c) 1 ≡ true → ⊥
-      before c _ lt t =
-          let one : A.mul a c ≡ 1 = eqb-true _ _ t in
-          let hc : c < A.size = omega arith in
-          let same : c ≡ b =
-          sym (one-mul A R c hc) ∙ ap (λ x. A.mul x c) (sym e) ∙ ap (λ x. A.mul x c) (mul_comm A R a b) ∙ mul_assoc A R b a c ∙ ap (A.mul b) one ∙ R.mul-one b hb in
-          omega arith
+  inverse_is a b hb e =
+      first_is (λ c. eqb (A.mul a c) 1) A.size 0 b (omega arith) (omega arith) (eq-eqb _ _ e)
+      (λ c low lt t. omega (arith, one_inverse a b c hb (omega arith) e (eqb-true _ _ t)))
 
   no_inverse : (a : ℕ) → ((b : ℕ) → A.mul a b ≡ 0) → inverse A.size A.mul a ≡ 0
-  no_inverse a none = first_none (λ b. eqb (A.mul a b) 1) A.size 0 (λ b t. let e = eqb-true _ _ t in let z = none b in omega arith)
+  no_inverse a none = first_none (λ b. eqb (A.mul a b) 1) A.size 0 (λ b t. grind (arith, nat_tests, none b))
 
   module _ (full : suc A.order ≡ A.size) (ret : Returns (A.mul A.root) A.order) where
     power_full : (i : ℕ) → power A.mul (power A.mul A.root i) A.order ≡ 1
     power_full zero = power_of_one A R A.order
-    power_full (suc i) =
-        power-mul A R A.root (power A.mul A.root i) A.order ∙ ap (λ x. A.mul x (power A.mul (power A.mul A.root i) A.order)) ret.1
-        ∙ ap (A.mul 1) (power_full i) ∙ R.mul-one 1 (one_code A R)
+    power_full (suc i) = cc (power-mul A R A.root (power A.mul A.root i) A.order, ret.1, power_full i, R.mul-one 1 (one_code A R))
 
     -- a ^ (size - 1) = 1
     fermat : (a : ℕ) → a < A.size → (a ≡ 0 → ⊥) → A.mul a (power A.mul a (A.size - 2)) ≡ 1
     fermat a ha ne =
         let low = R.size_low in
         let s : suc (A.size - 2) ≡ A.order = omega arith in
-        let at = reaches (A.mul A.root) A.order ret (mul-zero A R A.root) (λ i. let c = power_code A R A.root i in omega arith) a (omega arith) ne in
-        ap (power A.mul a) s ∙ ap (λ x. power A.mul x A.order) (sym at.2) ∙ power_full at.0
-
-    -- a ^ (size - 2) is the inverse of a, the exponent as a program has it
-    inverse_by_power : (a q : ℕ) → a < A.size → q ≡ A.size → power A.mul a (q - 2) ≡ inverse A.size A.mul a
-    inverse_by_power a q ha e =
-        ap (λ n. power A.mul a (n - 2)) e
-        ∙ elim (cases_eq a 0) [
-          | inl z ↦
-              let low = R.size_low in
-              let s : A.size - 2 ≡ suc (A.size - 3) = omega arith in
-              ap (power A.mul a) s ∙ ap (λ x. A.mul x (power A.mul a (A.size - 3))) z ∙ zero-mul A R _
-              ∙ sym (ap (inverse A.size A.mul) z ∙ no_inverse 0 (zero-mul A R))
-          | inr ne ↦ sym (inverse_is a _ (power_code A R a (A.size - 2)) (fermat a ha ne))
-        ]
+        let at = reaches (A.mul A.root) A.order ret (mul-zero A R A.root) (λ i. omega (arith, power_code A R A.root i)) a (omega arith) ne in
+        cc (ap (power A.mul a) s, at.2, power_full at.0)
 
     pub field_laws : A.root < A.size → ((a : ℕ) → A.inv a ≡ inverse A.size A.mul a) → 2 ≤ A.ground_size → A.ground_size ≤ A.size
         → ((a : ℕ) → suc a < A.ground_size → A.add a 1 ≡ suc a) → ((a : ℕ) → suc a ≡ A.ground_size → A.add a 1 ≡ 0) → Laws A
@@ -60,7 +43,7 @@ module _ (A : Arith) (R : Ring A) where
         record {
           ring = R;
           inv_code = λ a. rw (inv-is a) (first_below (λ b. eqb (A.mul a b) 1) A.size 0 A.size (zero_code A R) (omega arith));
-          mul-inv = λ a ha ne. ap (A.mul a) (inv-is a ∙ sym (inverse_by_power a A.size ha refl)) ∙ fermat a ha ne;
+          mul-inv = λ a ha ne. let e = fermat a ha ne in cc (inv-is a, inverse_is a _ (power_code A R a (A.size - 2)) e);
           inv-zero = inv-is 0 ∙ no_inverse 0 (zero-mul A R);
           inv_outside = λ a h. inv-is a ∙ no_inverse a (λ b. R.mul_outside_left a b h);
           ground_low = ground_low;
@@ -74,18 +57,14 @@ module _ (A : Arith) (R : Ring A) where
           root_order = ret.1;
         }
 
--- the same of any field by its laws: where the root's powers are all codes but 0, inverses are powers
+-- in a field whose root's powers are all codes but 0, a ^ (size - 2) is the inverse of a, the exponent as a program has it
 pub inverse_is_power : (A : Arith) → Laws A → suc A.order ≡ A.size → (a q : ℕ) → a < A.size → q ≡ A.size → power A.mul a (q - 2) ≡ A.inv a
-inverse_is_power A L full a q ha e = inverse_by_power A L.ring full ret a q ha e ∙ only
-  where
-    ret : Returns (A.mul A.root) A.order
-    ret =
-        let low = L.order_low in
-        (omega arith, L.root_order, λ k pos h one. let same = L.root_different k 0 h (omega arith) one in omega arith)
-
-    only : inverse A.size A.mul a ≡ A.inv a
-    only =
-        elim (cases_eq a 0) [
-          | inl z ↦ ap (inverse A.size A.mul) z ∙ no_inverse A L.ring 0 (zero-mul A L.ring) ∙ sym (ap A.inv z ∙ L.inv-zero)
-          | inr ne ↦ inverse_is A L.ring a (A.inv a) (L.inv_code a) (L.mul-inv a ha ne)
-        ]
+inverse_is_power A L full a q ha e =
+    let R = L.ring in
+    let low = L.order_low in
+    let ret : Returns (A.mul A.root) A.order = (omega arith, L.root_order, λ k pos h one. omega (arith, L.root_different k 0 h (omega arith) one)) in
+    ap (λ n. power A.mul a (n - 2)) e
+    ∙ elim (cases_eq a 0) [
+      | inl z ↦ let s : A.size - 2 ≡ suc (A.size - 3) = omega arith in cc (ap (power A.mul a) s, zero-mul A R (power A.mul a (A.size - 3)), L.inv-zero)
+      | inr ne ↦ one_inverse A R a _ _ (L.inv_code a) (power_code A R a (A.size - 2)) (L.mul-inv a ha ne) (fermat A R full ret a ha ne)
+    ]

@@ -1,10 +1,11 @@
 -- The codes of a ring as a type of their own, whose laws hold without conditions, and words of it as words of codes.
-use Rattle.std.proofs.Common.{◌≡◌, ℕ, zero, suc, ◌<◌, T, ltb, List, [], ◌∷◌, ◌++◌, map, length, replicate, sym, refl, ap, ◌∙◌, ltb→lt, lt→ltb}
+use Rattle.std.proofs.Common.{◌≡◌, ℕ, zero, suc, ◌<◌, T, ltb, List, [], ◌∷◌, ◌++◌, map, length, replicate, sym, refl, ap, ◌∙◌, ltb→lt, lt→ltb, arith, All}
 use mathlib.Core.HLevel.{is_prop→PathP}
-use mathlib.Core.List.{map-append}
+use mathlib.Core.List.{map-append, map-map}
+use lib.LanesLaws.{map-replicate}
 use lib.Dec.{T_prop}
 use lib.ListN.{length-map}
-use Rattle.std.specs.List.{AllByRecursion}
+use Rattle.std.proofs.lemmas.List.Elements.{All-tail}
 use Rattle.algebra.specs.Arith.{Arith, Ring, power}
 use Rattle.algebra.specs.Abstract.{Ops, RingLaws}
 use Rattle.algebra.specs.Words.{pow, value, less, remainder, times_factor, times_factors, factors}
@@ -31,9 +32,9 @@ module _ {A : Arith} where
   codes w = map (λ x. x.code) w
 
   -- a word of codes is one of elements
-  pub with_codes : (w : List ℕ) → AllByRecursion (λ c. c < A.size) w → (W : List (Element A)) × (codes W ≡ w)
+  pub with_codes : (w : List ℕ) → All (λ c. c < A.size) w → (W : List (Element A)) × (codes W ≡ w)
   with_codes [] h = ([], refl)
-  with_codes (c ∷ w) h = let t = with_codes w h.1 in (element c h.0 ∷ t.0, ap (λ l. c ∷ l) t.1)
+  with_codes (c ∷ w) h = let t = with_codes w (All-tail (λ c. c < A.size) c w h) in (element c (h 0 c (omega arith)) ∷ t.0, ap (λ l. c ∷ l) t.1)
 
 -- powers of a code, as a word's value takes them and as a field does
 pub pow_is_power : (A : Arith) (x n : ℕ) → pow (ops A) x n ≡ power A.mul x n
@@ -52,14 +53,14 @@ module _ (A : Arith) (R : Ring A) where
 
   pub elements_ring : RingLaws on_elements
   elements_ring = record {
-    add_comm = λ x y. same_element _ _ (R.add_comm x.code y.code (code_below x) (code_below y));
-    add_assoc = λ x y z. same_element _ _ (R.add_assoc x.code y.code z.code (code_below x) (code_below y) (code_below z));
-    add-zero = λ x. same_element _ _ (R.add-zero x.code (code_below x));
-    add-neg = λ x. same_element _ _ (R.add-neg x.code (code_below x));
-    mul_comm = λ x y. same_element _ _ (R.mul_comm x.code y.code (code_below x) (code_below y));
-    mul_assoc = λ x y z. same_element _ _ (R.mul_assoc x.code y.code z.code (code_below x) (code_below y) (code_below z));
-    mul-one = λ x. same_element _ _ (R.mul-one x.code (code_below x));
-    mul-add = λ x y z. same_element _ _ (R.mul-add x.code y.code z.code (code_below x) (code_below y) (code_below z));
+    add_comm = λ x y. same_element _ _ (R.add_comm _ _ (code_below x) (code_below y));
+    add_assoc = λ x y z. same_element _ _ (R.add_assoc _ _ _ (code_below x) (code_below y) (code_below z));
+    add-zero = λ x. same_element _ _ (R.add-zero _ (code_below x));
+    add-neg = λ x. same_element _ _ (R.add-neg _ (code_below x));
+    mul_comm = λ x y. same_element _ _ (R.mul_comm _ _ (code_below x) (code_below y));
+    mul_assoc = λ x y z. same_element _ _ (R.mul_assoc _ _ _ (code_below x) (code_below y) (code_below z));
+    mul-one = λ x. same_element _ _ (R.mul-one _ (code_below x));
+    mul-add = λ x y z. same_element _ _ (R.mul-add _ _ _ (code_below x) (code_below y) (code_below z));
   }
 
   pub code_pow : (x : Element A) (n : ℕ) → (pow on_elements x n).code ≡ pow (ops A) x.code n
@@ -68,9 +69,7 @@ module _ (A : Arith) (R : Ring A) where
 
   pub code_value : (w : List (Element A)) (x : Element A) → (value on_elements w x).code ≡ value (ops A) (codes w) x.code
   code_value [] x = refl
-  code_value (c ∷ w) x =
-      let power = code_pow x (length w) ∙ ap (pow (ops A) x.code) (sym (length-map w (λ x. x.code))) in
-      λ i. A.add (A.mul c.code (power i)) (code_value w x i)
+  code_value (c ∷ w) x = cc (code_pow x (length w), length-map w (λ x. x.code), code_value w x)
 
   codes-less : (a : Element A) (w v : List (Element A)) → codes (less on_elements a w v) ≡ less (ops A) a.code (codes w) (codes v)
   codes-less a [] v = refl
@@ -80,35 +79,32 @@ module _ (A : Arith) (R : Ring A) where
   codes-remainder : (k : ℕ) (g w : List (Element A)) → codes (remainder on_elements k g w) ≡ remainder (ops A) k (codes g) (codes w)
   codes-remainder zero g w = refl
   codes-remainder (suc k) g [] = refl
-  codes-remainder (suc k) g (c ∷ w) = codes-remainder k g (less on_elements c w g) ∙ ap (remainder (ops A) k (codes g)) (codes-less c w g)
-
-  codes-neg : (w : List (Element A)) → codes (map on_elements.neg w) ≡ map A.neg (codes w)
-  codes-neg [] = refl
-  codes-neg (x ∷ w) = ap (λ l. A.neg x.code ∷ l) (codes-neg w)
-
-  codes_zeros : (n : ℕ) → codes (replicate n on_elements.zero) ≡ replicate n 0
-  codes_zeros zero = refl
-  codes_zeros (suc n) = ap (λ l. 0 ∷ l) (codes_zeros n)
+  codes-remainder (suc k) g (c ∷ w) = cc (codes-remainder k g (less on_elements c w g), codes-less c w g)
 
   -- a message times x^r, less its remainder
   pub codes_divided : (M g : List (Element A)) (r : ℕ)
       → codes (M ++ map on_elements.neg (remainder on_elements (length M) g (M ++ replicate r on_elements.zero)))
       ≡ codes M ++ map A.neg (remainder (ops A) (length (codes M)) (codes g) (codes M ++ replicate r 0))
   codes_divided M g r =
+      let code : Element A → ℕ = λ x. x.code in
       let raised = M ++ replicate r on_elements.zero in
-      let above : codes raised ≡ codes M ++ replicate r 0 = map-append (λ x. x.code) M (replicate r on_elements.zero) ∙ ap (λ l. codes M ++ l) (codes_zeros r) in
-      map-append (λ x. x.code) M (map on_elements.neg (remainder on_elements (length M) g raised))
-      ∙ ap (λ l. codes M ++ l)
-      (codes-neg (remainder on_elements (length M) g raised)
-      ∙ ap (map A.neg) (codes-remainder (length M) g raised ∙ (λ i. remainder (ops A) (sym (length-map M (λ x. x.code)) i) (codes g) (above i))))
+      let rest = remainder on_elements (length M) g raised in
+      let signs : codes (map on_elements.neg rest) ≡ map A.neg (codes rest) = map-map code on_elements.neg rest ∙ sym (map-map A.neg code rest) in
+      cc (
+        map-append code M (map on_elements.neg rest),
+        signs,
+        codes-remainder (length M) g raised,
+        length-map M code,
+        map-append code M (replicate r on_elements.zero),
+        map-replicate code r on_elements.zero,
+      )
 
   pub codes-times_factors : (w roots : List (Element A)) → codes (times_factors on_elements w roots) ≡ times_factors (ops A) (codes w) (codes roots)
   codes-times_factors w [] = refl
   codes-times_factors w (a ∷ roots) =
       let zero = on_elements.zero in
-      let once : codes (times_factor on_elements a w) ≡ times_factor (ops A) a.code (codes w) =
-      codes-less a (w ++ (zero ∷ [])) (zero ∷ w) ∙ ap (λ l. less (ops A) a.code l (0 ∷ codes w)) (map-append (λ x. x.code) w (zero ∷ [])) in
-      codes-times_factors (times_factor on_elements a w) roots ∙ ap (λ l. times_factors (ops A) l (codes roots)) once
+      let shifted = map-append (λ x. x.code) w (zero ∷ []) in
+      cc (codes-times_factors (times_factor on_elements a w) roots, codes-less a (w ++ (zero ∷ [])) (zero ∷ w), shifted)
 
   pub code_factors : (roots : List (Element A)) (x : Element A) → (factors on_elements roots x).code ≡ factors (ops A) (codes roots) x.code
   code_factors [] x = refl

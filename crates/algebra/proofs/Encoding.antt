@@ -1,16 +1,16 @@
 -- What is encoded is a codeword that begins with the message, and the check values tell codewords.
-use Rattle.std.proofs.Common.{◌≡◌, ℕ, zero, suc, ◌+◌, ◌*◌, ◌/◌, ◌%◌, ◌<◌, List, ◌++◌, map, length, drop, replicate, sym, ap, ◌∙◌, subst, suc-mul, zero-mul, arith, length-append, length-drop}
+use Rattle.std.proofs.Common.{◌≡◌, ℕ, zero, suc, ◌+◌, ◌*◌, ◌/◌, ◌%◌, ◌<◌, List, ◌++◌, map, length, drop, replicate, sym, ap, ◌∙◌, suc-mul, zero-mul, arith, length-append, length-drop, All}
 use native.Mathlib.Nat.{mod-add-div'}
 use lib.ListN.{length-map}
-use Rattle.std.specs.List.{range_with_len, AllByRecursion}
-use Rattle.std.proofs.ByRecursion.{All-weaker, All-map, All-append, All-drop}
+use Rattle.std.specs.List.{range_with_len}
+use Rattle.std.proofs.lemmas.List.Elements.{All-weaker, All-map, All-append, All-drop}
 use Rattle.std.proofs.lemmas.List.{take_at}
 use Rattle.algebra.specs.Arith.{Arith, Laws}
 use Rattle.algebra.specs.Words.{pow, value, remainder}
 use Rattle.algebra.specs.BlockCode.{ops, symbols, root_power, check_count, redundancy, dimension, generator, encoded, check_values, Accepted}
 use Rattle.algebra.specs.BlockCodeLaws.{EncodingIsCodeword, ChecksTellCodewords}
 use Rattle.algebra.specs.declared.Design.{Design}
-use Rattle.algebra.proofs.Powers.{power_code, power-add}
+use Rattle.algebra.proofs.Powers.{one_code, power_code, power-add}
 use Rattle.algebra.proofs.Members.{member-all, member-map, member-counting, all-counting}
 use Rattle.algebra.proofs.Elements.{Element, codes, with_codes, on_elements, elements_ring, code_pow, pow_is_power, code_value, codes_divided}
 use Rattle.algebra.proofs.WordValues.{length-remainder, length_raised, value_divided}
@@ -34,28 +34,25 @@ module _ (A : Arith) (D : Design) where
       let room = a.some_message in
       let g = drop 1 (generator A D) in
       let raised = message ++ replicate (redundancy A D) 0 in
-      let rest = remainder (ops A) (length message) g raised in
       let tail : length g ≡ redundancy A D = omega (arith, length-drop 1 (generator A D), generator_length A D) in
-      let above : length raised ≡ length message + redundancy A D = length_raised (ops A) message (redundancy A D) in
-      let long : length rest ≡ length g = length-remainder (ops A) (length message) g raised (omega arith) in
-      let both : length (encoded A D message) ≡ length message + length (map A.neg rest) = length-append message (map A.neg rest) in
-      let same : length (map A.neg rest) ≡ length rest = length-map rest A.neg in
-      omega arith
+      let above = length_raised (ops A) message (redundancy A D) in
+      let long = length-remainder (ops A) (length message) g raised (omega arith) in
+      simp (length-append, length-map, long) (omega arith)
 
 module _ (A : Arith) (L : Laws A) where
   -- the root's powers go round
   root_turns : (k : ℕ) → root_power A (k * A.order) ≡ 1
   root_turns zero = ap (root_power A) (zero-mul A.order)
   root_turns (suc k) =
-      ap (root_power A) (suc-mul k A.order) ∙ power-add A L.ring A.root (k * A.order) A.order
-      ∙ (λ i. A.mul (root_turns k i) (L.root_order i)) ∙ L.ring.mul-one 1 (power_code A L.ring A.root 0)
+      let R = L.ring in
+      cc (ap (root_power A) (suc-mul k A.order), power-add A R A.root (k * A.order) A.order, root_turns k, L.root_order, R.mul-one 1 (one_code A R))
 
   root_modulo : (m : ℕ) → root_power A (m % A.order) ≡ root_power A m
   root_modulo m =
       let N = A.order in
       let R = L.ring in
-      sym (R.mul-one (root_power A (m % N)) (power_code A R A.root (m % N))) ∙ ap (A.mul (root_power A (m % N))) (sym (root_turns (m / N)))
-      ∙ sym (power-add A R A.root (m % N) (m / N * N)) ∙ ap (root_power A) (mod-add-div' m N)
+      let whole = R.mul-one (root_power A (m % N)) (power_code A R A.root (m % N)) in
+      cc (ap (root_power A) (mod-add-div' m N), power-add A R A.root (m % N) (m / N * N), root_turns (m / N), whole)
 
   module _ (D : Design) where
     -- the encoded word, of elements
@@ -70,20 +67,19 @@ module _ (A : Arith) (L : Laws A) where
     encoded_is M =
         let g = generator_tail A L D in
         let is = generator_is A L D in
-        let r : redundancy A D ≡ length g = omega (arith, sym (generator_length A D) ∙ ap length is ∙ ap suc (length-map g (λ x. x.code))) in
-        (λ i. codes M ++ map A.neg (remainder (ops A) (length (codes M)) (drop 1 (is i)) (codes M ++ replicate (r i) 0)))
-        ∙ sym (codes_divided A L.ring M g (length g))
+        let r : redundancy A D ≡ length g = omega (arith, generator_length A D, ap length is, length-map g (λ x. x.code)) in
+        cc (codes_divided A L.ring M g (length g), is, r)
 
     encoded_root : (M : List (Element A)) (j : ℕ) → j < check_count A D → value (ops A) (encoded A D (codes M)) (root_power A (D.first + j)) ≡ 0
     encoded_root M j l =
         let R = L.ring in
         let e = (D.first + j) % A.order in
-        let x = pow (on_elements A R) (root_element A L) e in
-        (λ i. value (ops A) (encoded_is M i) ((sym (root_modulo (D.first + j)) ∙ sym (pow_is_power A A.root e) ∙ sym (code_pow A R (root_element A L) e)) i))
-        ∙ sym (code_value A R (encoded_elements M) x)
+        let x : Element A = pow (on_elements A R) (root_element A L) e in
+        let at : x.code ≡ root_power A (D.first + j) = code_pow A R (root_element A L) e ∙ pow_is_power A A.root e ∙ root_modulo (D.first + j) in
+        (λ i. value (ops A) (encoded_is M i) (sym at i)) ∙ sym (code_value A R (encoded_elements M) x)
         ∙ ap (λ v. v.code) (value_divided (elements_ring A R) M (generator_tail A L D) x (tail_root A L D e ((exponents_smallest A L D).run_in j l)))
 
-    encoded_symbols : Accepted A D → (message : List ℕ) → AllByRecursion (λ x. x < symbols A D.alphabet) message → AllByRecursion (λ x. x < symbols A D.alphabet) (encoded A D message)
+    encoded_symbols : Accepted A D → (message : List ℕ) → All (λ x. x < symbols A D.alphabet) message → All (λ x. x < symbols A D.alphabet) (encoded A D message)
     unfolding encoded
     encoded_symbols a message h =
         let s = D.alphabet in
@@ -101,7 +97,7 @@ module _ (A : Arith) (L : Laws A) where
         let M = with_codes message (All-weaker (λ x. x < symbols A D.alphabet) (λ x. x < A.size) (λ x l. omega arith) message h) in (
           (
             (encoded_length A D a message n, encoded_symbols a message h),
-            subst (λ m. (j : ℕ) → j < check_count A D → value (ops A) (encoded A D m) (root_power A (D.first + j)) ≡ 0) M.1 (encoded_root M.0),
+            rw M.1 at (encoded_root M.0),
           ),
           take_at message _ (dimension A D) n,
         )

@@ -1,8 +1,9 @@
 -- The exponent set is the smallest one that holds the run and, for the ground alphabet, the conjugates.
-use Rattle.std.proofs.Common.{◌≡◌, ℕ, zero, suc, ◌+◌, ◌-◌, ◌%◌, ◌<◌, Bool, true, false, cond, T, eqb, List, [], ◌∷◌, filter, sym, refl, ap, ◌∙◌, subst, inl, inr, mod-lt, arith}
-use Rattle.std.specs.List.{range_with_len, AllByRecursion}
-use Rattle.std.proofs.ByRecursion.{All-weaker, All-map, all_kept_by, kept_by_passes}
-use Rattle.std.proofs.lemmas.Bool.{cases_Bool, cases_lt, cases_order, both_ways}
+use Rattle.std.proofs.Common.{◌≡◌, ℕ, zero, suc, ◌+◌, ◌-◌, ◌%◌, ◌<◌, Bool, true, T, eqb, List, [], ◌∷◌, filter, refl, ◌∙◌, subst, inl, inr, mod-lt, arith, All}
+use Rattle.std.specs.List.{range_with_len}
+use Rattle.std.proofs.lemmas.List.Elements.{All-nil, All-cons, All-weaker, All-map, All-filter, filter_passes}
+use Rattle.std.proofs.lemmas.Bool.{cases_Bool, cases_lt, eqb-true}
+use Rattle.std.proofs.lemmas.Bool.Decides.{nat_tests}
 use Rattle.algebra.specs.Arith.{Arith, Laws, iterate}
 use Rattle.algebra.specs.BlockCode.{some_of, orbit, conjugate, run, reached, exponents}
 use Rattle.algebra.specs.BlockCodeLaws.{Rising, Member, Smallest}
@@ -10,81 +11,52 @@ use Rattle.algebra.specs.declared.Alphabet.{Alphabet}
 use Rattle.algebra.specs.declared.Alphabet.TheVariants.{Whole, Ground}
 use Rattle.algebra.specs.declared.Design.{Design}
 use Rattle.algebra.proofs.Pigeon.{no_room}
+use Rattle.algebra.proofs.Searches.{first_finds}
 use Rattle.algebra.proofs.Walks.{iterate_first, iterate-add}
-use Rattle.algebra.proofs.Members.{member-all, member-map, member-joined, joined-member, all-joined, member-counting, all-counting, member-kept, kept_same, some_member, member_some}
+use Rattle.algebra.proofs.Members.{member-all, member-map, member-joined, joined-member, all-joined, member-counting, all-between, all-counting, member-kept, kept_same, some_member, member_some}
 
 counting_rising : (a n : ℕ) → Rising (range_with_len a n)
 counting_rising a zero = tt
-counting_rising a (suc n) = (from (a + 1) n (omega arith), counting_rising (a + 1) n)
-  where
-    from : (c k : ℕ) → a < c → AllByRecursion (λ y. a < y) (range_with_len c k)
-    from c zero l = tt
-    from c (suc k) l = (l, from (c + 1) k (omega arith))
+counting_rising a (suc n) = (all-between (λ y. a < y) (a + 1) n (λ y low high. omega arith), counting_rising (a + 1) n)
 
 kept_rising : (test : ℕ → Bool) (xs : List ℕ) → Rising xs → Rising (filter test xs)
 kept_rising test [] r = tt
-kept_rising test (x ∷ xs) r = go (test x) (kept_rising test xs r.1)
-  where
-    go : (b : Bool) → Rising (filter test xs) → Rising (cond b (x ∷ filter test xs) (filter test xs))
-    go true h = (all_kept_by test (λ y. x < y) xs r.0, h)
-    go false h = h
-
--- a test that passes just where another does is the same
-same_test : (s t : Bool) → (s ≡ true → T t) → (T t → s ≡ true) → s ≡ t
-same_test true true f g = refl
-same_test true false f g = absurd (f refl)
-same_test false true f g = g tt
-same_test false false f g = refl
+kept_rising test (x ∷ xs) r = grind (arith, kept_rising test xs r.1, All-filter test (λ y. x < y) xs r.0, cases_Bool (test x))
 
 module _ (step : ℕ → ℕ) where
   orbit_at : (k j e : ℕ) → j < k → Member (iterate step j e) (orbit step e k)
   orbit_at zero j e l = absurd (omega arith)
   orbit_at (suc k) zero e l = inl refl
-  orbit_at (suc k) (suc j) e l = inr (subst (λ x. Member x (orbit step (step e) k)) (iterate_first step j e) (orbit_at k j (step e) (omega arith)))
+  orbit_at (suc k) (suc j) e l = inr (rw (iterate_first step j e) at (orbit_at k j (step e) (omega arith)))
 
   orbit-member : (k e x : ℕ) → Member x (orbit step e k) → (j : ℕ) × (j < k) × (x ≡ iterate step j e)
   orbit-member zero e x m = absurd m
   orbit-member (suc k) e x (inl h) = (0, omega arith, h)
   orbit-member (suc k) e x (inr m) = let r = orbit-member k (step e) x m in (suc r.0, omega arith, r.2 ∙ iterate_first step r.0 e)
 
-  orbit_set : (set : ℕ → Bool) → ((e : ℕ) → T (set e) → T (set (step e))) → (k e : ℕ) → T (set e) → AllByRecursion (λ x. T (set x)) (orbit step e k)
-  orbit_set set h zero e t = tt
-  orbit_set set h (suc k) e t = (t, orbit_set set h k (step e) (h e t))
+  orbit_set : (set : ℕ → Bool) → ((e : ℕ) → T (set e) → T (set (step e))) → (k e : ℕ) → T (set e) → All (λ x. T (set x)) (orbit step e k)
+  orbit_set set h zero e t = All-nil (λ x. T (set x))
+  orbit_set set h (suc k) e t = All-cons (λ x. T (set x)) e (orbit step (step e) k) t (orbit_set set h k (step e) (h e t))
 
   module _ (N e : ℕ) (l : e < N) (below : (x : ℕ) → step x < N) where
     iterate_below : (j : ℕ) → iterate step j e < N
     iterate_below zero = l
     iterate_below (suc j) = below (iterate step j e)
 
-    -- after a repetition the walk stays among the first N
-    repeats : (i j : ℕ) → i < j → j < suc N → iterate step i e ≡ iterate step j e → Member (iterate step N e) (orbit step e N)
-    repeats i j lt hj q =
-        let k : N ≡ N - j + j = omega arith in
-        let back : iterate step (N - j + i) e ≡ iterate step N e =
-        iterate-add step (N - j) i e ∙ ap (iterate step (N - j)) q ∙ sym (ap (λ m. iterate step m e) k ∙ iterate-add step (N - j) j e) in
-        subst (λ x. Member x (orbit step e N)) back (orbit_at N (N - j + i) e (omega arith))
-
-    -- N steps come back into the first N
+    -- N steps come back into the first N, since two of the first N + 1 places are the same
     comes_round : Member (iterate step N e) (orbit step e N)
     comes_round =
-        let last = iterate step N e in
-        elim (cases_Bool (some_of (eqb last) (orbit step e N))) [
-          | inl t ↦ some_member last (orbit step e N) t
-          | inr t ↦
-              let never : Member last (orbit step e N) → ⊥ = λ m. both_ways _ t (member_some last (orbit step e N) m) in
+        elim (first_finds (λ i. eqb (iterate step i e) (iterate step N e)) N 0) [
+          | inl s ↦ rw (← eqb-true _ _ s.2) (orbit_at N _ e (omega (arith, s.1)))
+          | inr none ↦
               absurd (no_room N (λ i. iterate step i e) (λ i _. iterate_below i)
-              (λ i j hi hj q. elim (cases_order i j) [
-                | inl s ↦ s
-                | inr (inl lt) ↦ absurd (never (repeats i j lt hj q))
-                | inr (inr gt) ↦ absurd (never (repeats j i gt hi (sym q)))
-              ]))
+              (λ i j hi hj q. grind (arith, nat_tests, none (N - j + i), none (N - i + j), iterate-add step (N - j), iterate-add step (N - i))))
         ]
 
     orbit_closed : (x : ℕ) → Member x (orbit step e N) → Member (step x) (orbit step e N)
     orbit_closed x m =
         let r = orbit-member N e x m in
-        subst (λ y. Member (step y) (orbit step e N)) (sym r.2)
-        (elim (cases_lt (suc r.0) N) [
+        rw r.2 (elim (cases_lt (suc r.0) N) [
           | inl h ↦ orbit_at N (suc r.0) e h
           | inr h ↦ let s : N ≡ suc r.0 = omega arith in subst (λ y. Member (iterate step y e) (orbit step e N)) s comes_round
         ])
@@ -93,14 +65,7 @@ module _ (A : Arith) (L : Laws A) (D : Design) where
   modulo-order : (m : ℕ) → m % A.order < A.order
   modulo-order m = mod-lt m (let h = L.order_low in omega arith)
 
-  -- a set that holds the run, and for the ground alphabet with each e its conjugate
-  abbrev HoldsRun : (ℕ → Bool) → Type 0
-  HoldsRun set = (i : ℕ) → i < D.distance - 1 → T (set ((D.first + i) % A.order))
-
-  abbrev Closed : Alphabet → (ℕ → Bool) → Type 0
-  Closed s set = s ≡ Ground → (e : ℕ) → T (set e) → T (set (conjugate A e))
-
-  all-run : (P : ℕ → Type 0) → ((i : ℕ) → i < D.distance - 1 → P ((D.first + i) % A.order)) → AllByRecursion P (run A D)
+  all-run : (P : ℕ → Type 0) → ((i : ℕ) → i < D.distance - 1 → P ((D.first + i) % A.order)) → All P (run A D)
   all-run P h = All-map P (λ i. (D.first + i) % A.order) (range_with_len 0 (D.distance - 1)) (all-counting _ (D.distance - 1) h)
 
   member-run : (i : ℕ) → i < D.distance - 1 → Member ((D.first + i) % A.order) (run A D)
@@ -114,13 +79,15 @@ module _ (A : Arith) (L : Laws A) (D : Design) where
   run_reached Ground e m = let h = L.order_low in member-joined round e e (run A D) m (orbit_at (conjugate A) A.order 0 e (omega arith))
 
   reached_closed : (s : Alphabet) → s ≡ Ground → (e : ℕ) → Member e (reached A s (run A D)) → Member (conjugate A e) (reached A s (run A D))
-  reached_closed Whole g e m = let z : ◌≡◌ {A = ℕ} 0 1 = cc in absurd (omega arith)
+  reached_closed Whole g e m = absurd (cc)
   reached_closed Ground g e m =
       let r = joined-member round e (run A D) m in
       let l : r.0 < A.order = member-all (λ e. e < A.order) r.0 (run A D) (all-run (λ e. e < A.order) (λ i _. modulo-order (D.first + i))) r.1 in
       member-joined round r.0 (conjugate A e) (run A D) r.1 (orbit_closed (conjugate A) A.order r.0 l (λ x. modulo-order _) e r.2)
 
-  reached_least : (s : Alphabet) (set : ℕ → Bool) → HoldsRun set → Closed s set → AllByRecursion (λ e. T (set e)) (reached A s (run A D))
+  -- a set that holds the run, and for the ground alphabet with each e its conjugate
+  reached_least : (s : Alphabet) (set : ℕ → Bool) → ((i : ℕ) → i < D.distance - 1 → T (set ((D.first + i) % A.order)))
+      → (s ≡ Ground → (e : ℕ) → T (set e) → T (set (conjugate A e))) → All (λ e. T (set e)) (reached A s (run A D))
   reached_least Whole set h k = all-run (λ e. T (set e)) h
   reached_least Ground set h k =
       all-joined round (λ e. T (set e)) (λ e. T (set e)) (λ e t. orbit_set (conjugate A) set (k refl) A.order e t) (run A D) (all-run (λ e. T (set e)) h)
@@ -131,27 +98,24 @@ module _ (A : Arith) (L : Laws A) (D : Design) where
   abbrev in_set : ℕ → Bool
   in_set e = some_of (eqb e) es
 
-  reached_exponent : (e : ℕ) → e < A.order → in_set e ≡ true → Member e (exponents A D)
+  reached_exponent : (e : ℕ) → e < A.order → Member e es → Member e (exponents A D)
   unfolding exponents
-  reached_exponent e l t = member-kept in_set e (range_with_len 0 A.order) (member-counting 0 A.order e (omega arith) (omega arith)) t
+  reached_exponent e l m = member-kept in_set e (range_with_len 0 A.order) (member-counting 0 A.order e (omega arith) (omega arith)) (member_some e es m)
 
-  exponents_reached : AllByRecursion (λ e. in_set e ≡ true) (exponents A D)
+  exponents_reached : All (λ e. in_set e ≡ true) (exponents A D)
   unfolding exponents
-  exponents_reached = kept_by_passes in_set (range_with_len 0 A.order)
+  exponents_reached = filter_passes in_set (range_with_len 0 A.order)
 
-  exponent_reached : (e : ℕ) → Member e (exponents A D) → in_set e ≡ true
-  exponent_reached e m = member-all (λ e. in_set e ≡ true) e (exponents A D) exponents_reached m
+  exponent_reached : (e : ℕ) → Member e (exponents A D) → Member e es
+  exponent_reached e m = some_member e es (member-all (λ e. in_set e ≡ true) e (exponents A D) exponents_reached m)
 
   pub exponents_smallest : Smallest A D
   unfolding exponents
   exponents_smallest = record {
     rising = kept_rising in_set (range_with_len 0 A.order) (counting_rising 0 A.order);
-    below = all_kept_by in_set (λ e. e < A.order) (range_with_len 0 A.order) (all-counting (λ e. e < A.order) A.order (λ e l. l));
-    run_in = λ i l.
-        let e = (D.first + i) % A.order in
-        reached_exponent e (modulo-order (D.first + i)) (member_some e es (run_reached D.alphabet e (member-run i l)));
-    closed = λ g e m.
-        reached_exponent (conjugate A e) (modulo-order _) (member_some (conjugate A e) es (reached_closed D.alphabet g e (some_member e es (exponent_reached e m))));
+    below = All-filter in_set (λ e. e < A.order) (range_with_len 0 A.order) (all-counting (λ e. e < A.order) A.order (λ e l. l));
+    run_in = λ i l. reached_exponent _ (modulo-order _) (run_reached D.alphabet _ (member-run i l));
+    closed = λ g e m. reached_exponent _ (modulo-order _) (reached_closed D.alphabet g e (exponent_reached e m));
     least = λ set h k.
         All-weaker (λ e. in_set e ≡ true) (λ e. T (set e)) (λ e t. member-all (λ e. T (set e)) e es (reached_least D.alphabet set h k) (some_member e es t))
         (exponents A D) exponents_reached;
@@ -166,6 +130,14 @@ module _ (A : Arith) (L : Laws A) (D : Design) where
       let all = exponents_smallest.least set h k in
       kept_same in_set set (range_with_len 0 A.order)
       (all-counting (λ e. in_set e ≡ set e) A.order
-      (λ e l. same_test (in_set e) (set e)
-      (λ t. member-all (λ e. T (set e)) e (exponents A D) all (reached_exponent e l t))
-      (λ t. exponent_reached e (only e t))))
+      (λ e l. grind (
+        arith,
+        member-all (λ e. T (set e)) e (exponents A D) all,
+        reached_exponent e l,
+        exponent_reached e,
+        only e,
+        some_member e es,
+        member_some e es,
+        cases_Bool (set e),
+        cases_Bool (in_set e),
+      )))

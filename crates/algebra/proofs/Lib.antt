@@ -13,7 +13,6 @@ pub mod RootReturns
 pub mod Division
 pub mod Computed
 pub mod AbstractRing
-pub mod RingSolver
 pub mod WordValues
 pub mod Elements
 pub mod Members

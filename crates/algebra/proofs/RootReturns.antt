@@ -1,10 +1,11 @@
 -- An odd P of degree m: the product by x is one to one, so the powers of x return to 1, at 2^m - 1 or before.
-use Rattle.std.proofs.Common.{◌≡◌, ℕ, zero, suc, pred, ◌+◌, ◌-◌, ◌*◌, ◌%◌, ◌^◌, ◌<◌, eqb, sym, ap, ◌∙◌, inl, inr, one-mul, zero-mul, arith, pow_pos}
+use Rattle.std.proofs.Common.{◌≡◌, ℕ, zero, suc, pred, ◌+◌, ◌-◌, ◌*◌, ◌%◌, ◌^◌, ◌<◌, eqb, sym, ap, ◌∙◌, inl, inr, arith, pow_pos}
+use native.Mathlib.Nat as nat
 use lib.Bits.{bit_xor, xor_self}
-use Rattle.std.proofs.lemmas.Bool.{cases_order, eqb-true, eq-eqb}
+use Rattle.std.proofs.lemmas.Bool.{eqb-true, eq-eqb}
 use Rattle.algebra.specs.Arith.{iterate}
 use Rattle.algebra.specs.Binary.{bit, binary, Shape, RootReturns}
-use Rattle.algebra.proofs.Bits.{xor_equal, bit_below}
+use Rattle.algebra.proofs.Bits.{xor_equal, bit_below, digit_cases}
 use Rattle.algebra.proofs.Pigeon.{no_room}
 use Rattle.algebra.proofs.Powers.{power_code}
 use Rattle.algebra.proofs.Searches.{first_finds}
@@ -15,16 +16,12 @@ module _ (m P : ℕ) (shape : Shape m P) (odd : P % 2 ≡ 1) where
   -- no code but 0 is taken to 0: twice a code is even
   raise_kernel : (a : ℕ) → raise m P a ≡ 0 → a ≡ 0
   unfolding raise
-  raise_kernel a e = by (bit (2 * a) m) (bit_below (2 * a) m) (xor_equal (2 * a) (bit (2 * a) m * P) e)
-    where
-      by : (s : ℕ) → s < 2 → 2 * a ≡ s * P → a ≡ 0
-      by zero h d = let z = zero-mul P in omega arith
-      by (suc zero) h d = let z = one-mul P in absurd (omega arith)
-      by (suc (suc s)) h d = absurd (omega arith)
+  raise_kernel a e =
+      let same = xor_equal (2 * a) (bit (2 * a) m * P) e in
+      elim (digit_cases _ (bit_below (2 * a) m)) [ inl z ↦ omega (arith, rw z at same) | inr one ↦ omega (arith, rw one at same) ]
 
   raise_apart : (a b : ℕ) → raise m P a ≡ raise m P b → a ≡ b
-  raise_apart a b e =
-      xor_equal a b (raise_kernel (bit_xor a b) (raise_linear m P a b ∙ ap (λ x. bit_xor x (raise m P b)) e ∙ xor_self (raise m P b)))
+  raise_apart a b e = xor_equal a b (raise_kernel (bit_xor a b) (rw (raise_linear m P, e) (xor_self (raise m P b))))
 
   -- the powers of x
   abbrev walk : ℕ → ℕ
@@ -42,26 +39,14 @@ module _ (m P : ℕ) (shape : Shape m P) (odd : P % 2 ≡ 1) where
 
   -- equal powers, taken back to 1
   walk_back : (i j : ℕ) → walk i ≡ walk (i + j) → walk j ≡ 1
-  walk_back zero j e = let z : 0 + j ≡ j = omega arith in sym (e ∙ ap walk z)
-  walk_back (suc i) j e =
-      let z : suc i + j ≡ suc (i + j) = omega arith in
-      walk_back i j (raise_apart (walk i) (walk (i + j)) (sym (walk_next i) ∙ e ∙ ap walk z ∙ walk_next (i + j)))
+  walk_back zero j e = grind arith
+  walk_back (suc i) j e = walk_back i j (raise_apart (walk i) (walk (i + j)) (sym (walk_next i) ∙ e ∙ ap walk (nat.suc-add i j) ∙ walk_next (i + j)))
 
   -- not all powers from 1 to 2^m - 1 are other than 1
   pub returns_soon : ((k : ℕ) → 0 < k → k < 2 ^ m → walk k ≡ 1 → ⊥) → ⊥
   returns_soon never =
-      no_room (2 ^ m - 1) (λ k. pred (walk k)) (λ k _. let c = walk_code k in let z = walk_nonzero k in omega arith) alone
-    where
-      later : (i j : ℕ) → i < j → j < 2 ^ m → walk i ≡ walk j → ⊥
-      later i j lt hj e = let s : j ≡ i + (j - i) = omega arith in never (j - i) (omega arith) (omega arith) (walk_back i (j - i) (e ∙ ap walk s))
-
-      alone : (i j : ℕ) → i < suc (2 ^ m - 1) → j < suc (2 ^ m - 1) → pred (walk i) ≡ pred (walk j) → i ≡ j
-      alone i j hi hj e =
-          let zi = walk_nonzero i in
-          let zj = walk_nonzero j in
-          let c = walk_code 0 in
-          let same : walk i ≡ walk j = omega arith in
-          elim (cases_order i j) [ inl s ↦ s | inr (inl lt) ↦ absurd (later i j lt (omega arith) same) | inr (inr gt) ↦ absurd (later j i gt (omega arith) (sym same)) ]
+      no_room (2 ^ m - 1) (λ k. pred (walk k)) (λ k _. omega (arith, walk_code k, walk_nonzero k))
+      (λ i j hi hj e. grind (arith, never (j - i), never (i - j), walk_back i (j - i), walk_back j (i - j), walk_nonzero i, walk_nonzero j))
 
 pub root_returns : RootReturns
 root_returns m P shape odd =

@@ -1,6 +1,6 @@
 -- Codes over a field: the exponent set, the generator, codewords, encoding and check values.
-use Rattle.std.specs.Prelude.{◌≡◌, ℕ, zero, suc, ◌+◌, ◌-◌, ◌*◌, ◌/◌, ◌%◌, ◌<◌, ◌≤◌, Bool, false, ◌||◌, List, [], ◌∷◌, ◌++◌, map, length, drop, replicate, filter, nat_eq}
-use Rattle.std.specs.List.{range_with_len, flat_map, AllByRecursion}
+use Rattle.std.specs.Prelude.{◌≡◌, ℕ, zero, suc, ◌+◌, ◌-◌, ◌*◌, ◌/◌, ◌%◌, ◌<◌, ◌≤◌, Bool, false, ◌||◌, List, [], ◌∷◌, ◌++◌, map, length, drop, replicate, filter, nat_eq, All}
+use Rattle.std.specs.List.{range_with_len, flat_map}
 use Rattle.algebra.specs.Arith.{Arith, power}
 use Rattle.algebra.specs.Abstract.{Ops}
 use Rattle.algebra.specs.Words.{value, remainder, times_factors}
@@ -70,7 +70,7 @@ module _ (A : Arith) where
 
   -- n symbols of the alphabet
   abbrev pub Word : Design → List ℕ → Type 0
-  Word D w = (length w ≡ D.length) × AllByRecursion (λ x. x < symbols D.alphabet) w
+  Word D w = (length w ≡ D.length) × All (λ x. x < symbols D.alphabet) w
 
   -- a word whose value is 0 at α^b up to α^(b+δ−2)
   abbrev pub Codeword : Design → List ℕ → Type 0
@@ -93,4 +93,4 @@ module _ (A : Arith) where
     pub distance_low : 3 ≤ D.distance
     pub distance_high : D.distance ≤ 33
     pub some_message : redundancy D < D.length
-    pub generator_symbols : AllByRecursion (λ x. x < symbols D.alphabet) (generator D)
+    pub generator_symbols : All (λ x. x < symbols D.alphabet) (generator D)

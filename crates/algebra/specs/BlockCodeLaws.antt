@@ -1,6 +1,5 @@
 -- What is proved of the definitions of codes, for every field that keeps its laws.
-use Rattle.std.specs.Prelude.{◌≡◌, ℕ, suc, ◌+◌, ◌-◌, ◌%◌, ◌<◌, ◌≤◌, Bool, T, ◌⊎◌, ◌↔◌, List, [], ◌∷◌, map, length, take, slice_index_or}
-use Rattle.std.specs.List.{AllByRecursion}
+use Rattle.std.specs.Prelude.{◌≡◌, ℕ, suc, ◌+◌, ◌-◌, ◌%◌, ◌<◌, ◌≤◌, Bool, T, ◌⊎◌, ◌↔◌, List, [], ◌∷◌, map, length, take, slice_index_or, All}
 use Rattle.algebra.specs.Arith.{Arith}
 use Rattle.algebra.specs.Words.{value, factors}
 use Rattle.algebra.specs.BlockCode.{ops, symbols, root_power, conjugate, reach, exponents, redundancy, dimension, generator, Word, Codeword, encoded, check_values}
@@ -10,7 +9,7 @@ use Rattle.algebra.specs.declared.Design.{Design}
 -- each number is below all that follow
 abbrev pub Rising : List ℕ → Type 0
 Rising [] = Unit {0}
-Rising (x ∷ xs) = AllByRecursion (λ y. x < y) xs × Rising xs
+Rising (x ∷ xs) = All (λ y. x < y) xs × Rising xs
 
 -- x stands in the list
 abbrev pub Member : ℕ → List ℕ → Type 0
@@ -21,10 +20,10 @@ module _ (A : Arith) where
   -- the exponents are the smallest set that holds b up to b + δ − 2 modulo N and, for the ground alphabet, with each e also e × p modulo N
   pub record Smallest (D : Design) : Type 0 where
     pub rising : Rising (exponents A D)
-    pub below : AllByRecursion (λ e. e < A.order) (exponents A D)
+    pub below : All (λ e. e < A.order) (exponents A D)
     pub run_in : (i : ℕ) → i < D.distance - 1 → Member ((D.first + i) % A.order) (exponents A D)
     pub closed : D.alphabet ≡ Ground → (e : ℕ) → Member e (exponents A D) → Member (conjugate A e) (exponents A D)
-    pub least : (set : ℕ → Bool) → ((i : ℕ) → i < D.distance - 1 → T (set ((D.first + i) % A.order))) → (D.alphabet ≡ Ground → (e : ℕ) → T (set e) → T (set (conjugate A e))) → AllByRecursion (λ e. T (set e)) (exponents A D)
+    pub least : (set : ℕ → Bool) → ((i : ℕ) → i < D.distance - 1 → T (set ((D.first + i) % A.order))) → (D.alphabet ≡ Ground → (e : ℕ) → T (set e) → T (set (conjugate A e))) → All (λ e. T (set e)) (exponents A D)
 
   -- what an accepted code is
   pub record Facts (D : Design) : Type 0 where
@@ -40,9 +39,9 @@ module _ (A : Arith) where
 -- what is encoded is a codeword, and begins with the message
 abbrev pub EncodingIsCodeword : Arith → Design → Type 0
 EncodingIsCodeword A D =
-    (message : List ℕ) → length message ≡ dimension A D → AllByRecursion (λ x. x < symbols A D.alphabet) message
+    (message : List ℕ) → length message ≡ dimension A D → All (λ x. x < symbols A D.alphabet) message
     → Codeword A D (encoded A D message) × (take (dimension A D) (encoded A D message) ≡ message)
 
 -- the check values of a word are all 0 exactly where it is a codeword
 abbrev pub ChecksTellCodewords : Arith → Design → Type 0
-ChecksTellCodewords A D = (w : List ℕ) → Word A D w → AllByRecursion (λ s. s ≡ 0) (check_values A D w) ↔ Codeword A D w
+ChecksTellCodewords A D = (w : List ℕ) → Word A D w → All (λ s. s ≡ 0) (check_values A D w) ↔ Codeword A D w

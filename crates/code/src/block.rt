@@ -1,6 +1,5 @@
 // An opened code: plain numbers beside the field that it was opened from.
 ghost use Rattle.std.specs.Prelude.{◌≡◌};
-ghost use Rattle.std.proofs.Props.{props};
 ghost use Rattle.algebra.specs.BlockCode.{Accepted};
 ghost use Rattle.code.specs.Opened.{TablesOf};
 
@@ -27,10 +26,11 @@ pub struct Code<F: Field> {
     pub field: F,
     pub design: Design,
     tables: Tables,
-    pub ghost accepted: { Accepted (F.meaning field) design } by { Prim.hlevel props },
+    pub ghost accepted: { Accepted (F.meaning field) design },
     pub ghost opened: { TablesOf (F.meaning field) design tables },
 }
 
+// By hand: `Clone` cannot be derived where a ghost field speaks of a parameter.
 impl<F: Field> Clone for Code<F> {
     ghost is_clone = { λ code copy. copy ≡ code };
 

@@ -6,7 +6,7 @@ ghost use Rattle.code.specs.Marks.{marked, marked_below, step, Within, Closed, M
 // At least the order of any field's root.
 const MOST_ORDER: usize = 1024;
 
-// Marks on the numbers below the order.
+// Marks on the numbers below the order, in memory for the largest: no heap is needed.
 #[derive(Drop)]
 pub(crate) struct Marks {
     order: u16,

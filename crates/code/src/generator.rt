@@ -7,7 +7,7 @@ use crate::block::LONGEST;
 use crate::words::multiply_by_factor;
 use field::Field;
 
-// Its coefficients, the highest degree first, stand in front.
+// Its coefficients, the highest degree first, stand in front. The product grows by a place with each factor, so places are counted.
 pub(crate) fn generator_of<F: Field>(field: &F, exponents: &[u16]) -> [u16; LONGEST]
     requires { length exponents.now < 255 }
     ensures size { length result ≡ 255 }
@@ -18,7 +18,6 @@ pub(crate) fn generator_of<F: Field>(field: &F, exponents: &[u16]) -> [u16; LONG
     product[0] = 1;
     for (i, exponent) in exponents.iter().enumerate() {
         let point = field.power(root, u32::from(*exponent));
-        product[i + 1] = 0;
         multiply_by_factor(field, point, &mut product[0..=i + 1]);
     }
     product

@@ -1,6 +1,5 @@
 // What every call judges of the words and the memory that it is lent.
-ghost use Rattle.std.specs.Prelude.{◌≡◌, ◌<◌, ◌≤◌, length, OnOk};
-ghost use Rattle.std.specs.List.{AllByRecursion};
+ghost use Rattle.std.specs.Prelude.{◌≡◌, ◌<◌, ◌≤◌, length, OnOk, All};
 ghost use Rattle.code.specs.Calls.{judged};
 
 use crate::CodeFault;
@@ -17,7 +16,7 @@ pub(crate) fn judge(
     requires { size ≤ 255 }
     ensures answer { result ≡ judged size limit word.now room wanted tt }
     ensures passed { OnOk result ((length word.now ≡ size) × (wanted ≤ room)) }
-    ensures inside { OnOk result (AllByRecursion (λ x. x < limit) word.now) }
+    ensures inside { OnOk result (All (λ x. x < limit) word.now) }
 {
     if word.len() != size {
         return Err(CodeFault::WordLength);

@@ -1,6 +1,5 @@
 // Words over any field: values, and steps of products and divisions. A word is a polynomial, its highest coefficient first.
-ghost use Rattle.std.specs.Prelude.{◌≡◌, ◌-◌, ◌<◌, ◌≤◌, ◌∷◌, ◌++◌, map, length, take, drop, replicate, IfSome};
-ghost use Rattle.std.specs.List.{AllByRecursion};
+ghost use Rattle.std.specs.Prelude.{◌≡◌, ◌-◌, ◌<◌, ◌≤◌, ◌∷◌, ◌++◌, map, length, take, drop, replicate, IfSome, All};
 ghost use Rattle.algebra.specs.Words.{less, remainder, value};
 ghost use Rattle.algebra.specs.BlockCode.{ops, symbols};
 ghost use Rattle.code.specs.Calls.{outside};
@@ -53,7 +52,7 @@ pub(crate) fn multiply_by_factor<F: Field>(field: &F, root: u16, word: &mut [u16
 
 // The value of the word at `x`, by Horner's rule: a product for each symbol but the first.
 pub(crate) fn value_at<F: Field>(field: &F, word: &[u16], x: u16) -> u16
-    ensures { x < (F.meaning field.now).size → AllByRecursion (λ s. s < (F.meaning field.now).size) word.now → result ≡ value (ops (F.meaning field.now)) word.now x }
+    ensures { x < (F.meaning field.now).size → All (λ s. s < (F.meaning field.now).size) word.now → result ≡ value (ops (F.meaning field.now)) word.now x }
 {
     let Some((first, rest)) = word.split_first() else {
         return 0;

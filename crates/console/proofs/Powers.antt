@@ -16,6 +16,7 @@ pub record GivesProduct {F : Type 0} (g : Mut F (Bor ℕ × Unit {0}) (Option �
   pub answers : (x : ℕ) (r : Option ℕ) → CalledAt g f x r f → r ≡ Some (mul root x)
 
 module _ {T F : Type 0} {source : T → Option ℕ → T → Type 0} (q : Run source) {g : Mut F (Bor ℕ × Unit {0}) (Option ℕ)} {f : F} (mul : ℕ → ℕ → ℕ) (root : ℕ) (gives : GivesProduct g f mul root) (runs : IsSuccessorsRun q g f (Some 1)) where
+  -- what came at each place
   power_at : (k : ℕ) → IfSome (q.at k) (λ y. y ≡ power mul root k)
   power_at zero = let first = runs.0 in grind (arith, common_steps)
   power_at (suc k) =
@@ -30,6 +31,7 @@ module _ {T F : Type 0} {source : T → Option ℕ → T → Type 0} (q : Run so
       let last = (runs.2 gives.keeps).1 (q.len - 1) whole in
       grind (arith, common_steps, gives.answers)
 
+-- n of them, taken and collected
 pub taken_powers : {S T F : Type 0} {steps : S → Option ℕ → S → Type 0} {source : T → Option ℕ → T → Type 0} {g : Mut F (Bor ℕ × Unit {0}) (Option ℕ)} {f : F} {s : S} {t : T} {ys : List ℕ} {l m : ℕ} (mul : ℕ → ℕ → ℕ) (root n : ℕ)
     → EachRunFrom source t (λ q. IsSuccessorsRun q g f (Some 1))
     → EachRunFrom steps s (λ p. (p.len ≤ m) × SomeRun source t (λ q. HasSameItems p q × (IsTrue p.whole → p.len < m → IsTrue q.whole)))

@@ -16,6 +16,7 @@ pub enum Complaint {
     NoField,
 }
 
+// By hand: what a derive writes states no bytes.
 impl fmt::Display for Complaint {
     ghost output = { λ c. Some (complaint_words c) };
 

@@ -30,6 +30,7 @@ pub enum Failure {
     Memory(AllocError),
 }
 
+// By hand, as the next: a derived `From` does not say which case it makes.
 impl From<AllocError> for Failure {
     ghost from_gives = { λ e r. r ≡ Memory e };
 

@@ -6,4 +6,6 @@ mod complaint;
 mod desk;
 mod lines;
 
-pub use desk::Desk;
+pub use command::{Command, Question};
+pub use complaint::Complaint;
+pub use desk::{Desk, Failure};

@@ -13,24 +13,16 @@ pub enum Layer {
     Station,
 }
 
-impl Layer {
-    fn name(&self) -> &'static str
-        ensures { result.now ≡ layer_name self.now }
-    {
-        match *self {
-            Self::Field => "field",
-            Self::Code => "code",
-            Self::Station => "station",
-        }
-    }
-}
-
 // By hand, as every Display here: what a derive writes states no bytes.
 impl fmt::Display for Layer {
     ghost output = { λ layer. Some (layer_name layer) };
 
     fn fmt<W: fmt::Write>(&self, f: &mut fmt::Formatter<W>) -> fmt::Result {
-        f.write_str(self.name())
+        f.write_str(match self {
+            Self::Field => "field",
+            Self::Code => "code",
+            Self::Station => "station",
+        })
     }
 }
 

@@ -28,7 +28,7 @@ pub trait Field: Copy {
     fn ground(&self) -> u16
         ensures { result ≡ (meaning self.now).ground_size };
 
-    // How many powers the root has.
+    // How many powers the root has. It may have fewer than there are codes but 0, so there is no default.
     fn order(&self) -> u16
         ensures { result ≡ (meaning self.now).order };
 

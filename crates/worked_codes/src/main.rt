@@ -22,7 +22,7 @@ fn run(rt: &HostRuntime) -> anyhow::Result<()> {
     Ok(())
 }
 
-// That the definitions give the marked examples is proved; that the program does is seen above.
+// That the definitions give the marked examples is proved, on this program's own contract; that the program does is seen above.
 pub fn definitions_agree(rt: &HostRuntime) -> io::Result<()>
     ensures { code_examples ≡ true }
 {

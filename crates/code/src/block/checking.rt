@@ -1,7 +1,6 @@
 // Check values: the values of a word at the points where every codeword is 0.
-ghost use Rattle.std.specs.Prelude.{◌≡◌, ◌<◌, length, OnErr};
+ghost use Rattle.std.specs.Prelude.{◌≡◌, ◌<◌, length, OnErr, All};
 ghost use Rattle.std.specs.Result.{result_map_both};
-ghost use Rattle.std.specs.List.{AllByRecursion};
 ghost use Rattle.algebra.specs.BlockCode.{check_count, check_values};
 ghost use Rattle.algebra.specs.BlockCodeLaws.{ChecksTellCodewords};
 ghost use Rattle.code.specs.Calls.{checking};
@@ -28,7 +27,7 @@ impl<F: Field> Code<F> {
 
     // Fills the list with check values, one point after the other.
     fn write_check_values(&self, word: &[u16], list: &mut [u16])
-        ensures { AllByRecursion (λ s. s < (F.meaning self.now.field).size) word.now → length list.old ≡ check_count (F.meaning self.now.field) self.now.design → list.new ≡ check_values (F.meaning self.now.field) self.now.design word.now }
+        ensures { All (λ s. s < (F.meaning self.now.field).size) word.now → length list.old ≡ check_count (F.meaning self.now.field) self.now.design → list.new ≡ check_values (F.meaning self.now.field) self.now.design word.now }
     {
         let root = self.field.root();
         let mut point = self.tables.start;

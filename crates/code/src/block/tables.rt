@@ -10,7 +10,7 @@ use crate::generator::generator_of;
 use algebra::Design;
 use field::Field;
 
-// There are `redundancy` exponents, and one coefficient more.
+// There are `redundancy` exponents, and one coefficient more. The arrays have room for the longest code, so that no heap is needed.
 #[derive(Clone, Copy)]
 pub(crate) struct Tables {
     pub(crate) redundancy: usize,

@@ -1,5 +1,5 @@
-use Rattle.std.proofs.Common.{rules, ◌≡◌, ◌<◌, ◌∷◌, sym, ap, ◌∙◌, subst}
-use Rattle.std.specs.List.{AllByRecursion}
+use Rattle.std.proofs.Common.{rules, ◌≡◌, ◌<◌, ◌∷◌, sym, ap, ◌∙◌, subst, All}
+use Rattle.std.proofs.lemmas.List.Elements.{All-head, All-tail}
 use Rattle.std.proofs.iter.runs.Made.{chains}
 use Rattle.algebra.specs.Words.{value}
 use Rattle.algebra.specs.BlockCode.{ops}
@@ -12,4 +12,5 @@ returns g c hx all =
     let L = g.met.F.Field.keeps c.args.field.now in
     let whole : c.args.word.now ≡ c.in-Some.first.now ∷ c.in-Some.rest.now = search rules in
     let folded : c.fold.result ≡ horner A c.args.x c.in-Some.first.now c.in-Some.rest.now = search (rules, chains) in
-    folded ∙ horner_value A L c.args.x _ _ hx (subst (AllByRecursion (λ s. s < A.size)) whole all) ∙ ap (λ w. value (ops A) w c.args.x) (sym whole)
+    let symbols = subst (All (λ s. s < A.size)) whole all in
+    folded ∙ horner_value A L c.args.x _ _ hx (All-head (λ s. s < A.size) _ _ symbols) (All-tail (λ s. s < A.size) _ _ symbols) ∙ ap (λ w. value (ops A) w c.args.x) (sym whole)

@@ -1,5 +1,5 @@
-use Rattle.std.proofs.Common.{◌≡◌, ◌+◌, ◌<◌, map, take}
-use Rattle.std.specs.List.{range_with_len, AllByRecursion}
+use Rattle.std.proofs.Common.{◌≡◌, ◌+◌, ◌<◌, map, take, All}
+use Rattle.std.specs.List.{range_with_len}
 use Rattle.algebra.specs.Words.{value}
 use Rattle.algebra.specs.BlockCode.{ops, root_power}
 use Rattle.code.proofs.block.Code.write_check_values.Given as goal
@@ -9,5 +9,5 @@ invariant-loop-value g l =
     let A = g.F.Field.meaning l.self.field in
     let b = l.self.design.first in
     let i = l.value-index in
-    AllByRecursion (λ s. s < A.size) l.word
+    All (λ s. s < A.size) l.word
     → (l.point ≡ root_power A (b + i)) × (take i l.list ≡ map (λ j. value (ops A) l.word (root_power A (b + j))) (range_with_len 0 i))
