@@ -1,19 +1,18 @@
 -- One step of a division in place.
+use Rattle.std.proofs.lemmas.Grind.{common_steps}
 use Rattle.std.proofs.Common.{◌≡◌, ℕ, suc, ◌+◌, ◌-◌, ◌<◌, ◌≤◌, List, ◌++◌, length, get_or, take, drop, sym, ap, ◌∙◌, ap₂, arith}
 use borrow.Rule.Slice.PartMut.{put_mid}
-use Rattle.std.proofs.lemmas.List.{append-nil, length-take-le, length-drop, take_rest, drop_at, drop_all, drop_more}
+use Rattle.std.proofs.lemmas.List.{take_rest, drop_more}
 use Rattle.algebra.specs.Arith.{Arith}
 use Rattle.algebra.specs.Words.{less, remainder}
 use Rattle.algebra.specs.BlockCode.{ops}
 
 -- the word after a write to all that follows place a
 pub rest_written : (w part : List ℕ) (a : ℕ) → a ≤ length w → put_mid a (length w - a) w part ≡ take a w ++ part
-rest_written w part a h =
-    ap (λ past. take a w ++ (part ++ past)) (drop_all (length w - a) (drop a w) (let l = length-drop a w in omega arith))
-    ∙ ap (λ past. take a w ++ past) (append-nil part)
+rest_written w part a h = grind (arith, common_steps)
 
 drop_written : (w part : List ℕ) (a : ℕ) → a ≤ length w → drop a (put_mid a (length w - a) w part) ≡ part
-drop_written w part a h = ap (drop a) (rest_written w part a h) ∙ drop_at (take a w) part a (length-take-le a w h)
+drop_written w part a h = grind (arith, common_steps)
 
 pub divide_turn : (A : Arith) (g w part : List ℕ) (steps i : ℕ) → i < steps → steps ≤ length w
     → part ≡ less (ops A) (get_or w i 0) (take (length w - (i + 1)) (drop (i + 1) w)) g

@@ -1,7 +1,8 @@
 -- The encoder's steps in the buffer come to the encoding.
+use Rattle.std.proofs.lemmas.Grind.{common_steps}
 use Rattle.std.proofs.Common.{◌≡◌, ℕ, ◌-◌, ◌≤◌, List, ◌++◌, map, length, take, drop, replicate, refl, ap, ◌∙◌, ap₂, arith}
 use borrow.Rule.Slice.PartMut.{put_mid}
-use Rattle.std.proofs.lemmas.List.{length-append, length-drop, take_at, take_rest, drop_at}
+use Rattle.std.proofs.lemmas.List.{length-append, take_at, take_rest, drop_at}
 use Rattle.algebra.specs.Arith.{Arith}
 use Rattle.algebra.specs.Words.{remainder}
 use Rattle.algebra.specs.BlockCode.{ops, redundancy, generator, encoded}
@@ -14,9 +15,7 @@ module _ (A : Arith) (D : Design) (message word : List ℕ) (fits : length messa
 
   -- the message times x^r
   padded : (front cleared : List ℕ) → front ≡ message ++ drop k word → cleared ≡ take k front ++ replicate (length front - k) 0 → cleared ≡ message ++ replicate (redundancy A D) 0
-  padded front cleared f c =
-      let size : length front - k ≡ redundancy A D = ap (λ n. n - k) (ap length f ∙ length-append message (drop k word)) ∙ (let l = length-drop k word in omega arith) in
-      c ∙ ap₂ (λ a n. a ++ replicate n 0) (ap (take k) f ∙ take_at message (drop k word) k refl) size
+  padded front cleared f c = grind (arith, common_steps)
 
   pub encodes_in_place : (front cleared divisor divided again negated : List ℕ) → front ≡ message ++ drop k word → cleared ≡ take k front ++ replicate (length front - k) 0
       → divisor ≡ drop 1 (generator A D) → drop k divided ≡ remainder (ops A) k divisor cleared → again ≡ message ++ drop k divided

@@ -1,24 +1,20 @@
 -- Marking a set of numbers, an orbit after the other, and writing them to a list.
+use Rattle.std.proofs.lemmas.Grind.{common_steps}
 use Rattle.std.proofs.Common.{◌≡◌, ℕ, zero, suc, ◌+◌, ◌%◌, ◌<◌, ◌≤◌, Bool, true, false, T, ◌⊎◌, List, [], ◌∷◌, length, take, set, replicate, map, sym, refl, ap, ◌∙◌, subst, inl, inr, mod-lt, arith, below_more}
 use Rattle.std.specs.List.{enumerate_from}
 use Rattle.std.proofs.lemmas.List.FromFn.{length-enumerate_from}
-use Rattle.std.proofs.lemmas.List.{map-id, take_all, get_or-set_same, get_or-set_other}
-use Rattle.std.proofs.lemmas.Bool.{cases_eq}
+use Rattle.std.proofs.lemmas.List.{map-id, take_all}
 use Rattle.code.specs.Marks.{marked, step, Within, Closed, MarkedRun}
 
 -- what is marked after e was marked
 mark_here : (marks : List Bool) (e : ℕ) → e < length marks → T (marked (set marks e true) e)
-mark_here marks e h = subst T (sym (get_or-set_same marks e true false h)) tt
+mark_here marks e h = grind (arith, common_steps)
 
 mark_kept : (marks : List Bool) (e : ℕ) → e < length marks → Within (marked marks) (marked (set marks e true))
-mark_kept marks e h x t =
-    elim (cases_eq x e) [
-      | inl same ↦ subst (λ y. T (marked (set marks e true) y)) (sym same) (mark_here marks e h)
-      | inr other ↦ subst T (sym (get_or-set_other marks e x true false other)) t
-    ]
+mark_kept marks e h x t = grind (arith, common_steps)
 
 mark_back : (marks : List Bool) (e x : ℕ) → T (marked (set marks e true) x) → (x ≡ e) ⊎ T (marked marks x)
-mark_back marks e x t = elim (cases_eq x e) [ inl same ↦ inl same | inr other ↦ inr (subst T (get_or-set_other marks e x true false other) t) ]
+mark_back marks e x t = grind (arith, common_steps)
 
 module _ (order factor : ℕ) where
   -- how far the marking of the orbit of `start` has come, if e is to be marked next

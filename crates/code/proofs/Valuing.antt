@@ -1,5 +1,6 @@
 -- Check values one point after the other.
-use Rattle.std.proofs.Common.{◌≡◌, ℕ, ◌+◌, ◌<◌, List, [], ◌∷◌, ◌++◌, map, length, take, set, sym, ap, ◌∙◌, ap₂, add_assoc, add-one, arith}
+use Rattle.std.proofs.lemmas.Grind.{common_steps}
+use Rattle.std.proofs.Common.{◌≡◌, ℕ, ◌+◌, ◌<◌, List, [], ◌∷◌, ◌++◌, map, length, take, set, sym, ◌∙◌, ap₂, arith}
 use Rattle.std.specs.List.{range_with_len}
 use Rattle.std.proofs.lemmas.List.FromFn.{map-range_with_len_more}
 use Rattle.std.proofs.lemmas.List.{take_more_set}
@@ -13,7 +14,7 @@ module _ (A : Arith) (b : ℕ) (word : List ℕ) where
   check j = value (ops A) word (root_power A (b + j))
 
   pub next_point : (i root point next : ℕ) → root ≡ A.root → point ≡ root_power A (b + i) → next ≡ A.mul root point → next ≡ root_power A (b + (i + 1))
-  next_point i root point next r p n = n ∙ ap₂ A.mul r p ∙ ap (root_power A) (sym (add-one (b + i)) ∙ add_assoc b i 1)
+  next_point i root point next r p n = grind (arith, common_steps)
 
   pub one_more_check : (list : List ℕ) (i y : ℕ) → i < length list → y ≡ check i → take i list ≡ map check (range_with_len 0 i) → take (i + 1) (set list i y) ≡ map check (range_with_len 0 (i + 1))
   one_more_check list i y h e before =

@@ -22,7 +22,7 @@ pub(crate) const MOST_CHECKS: usize = LONGEST - 1;
 
 // Made by `Code::open` alone: the field accepted the design, and the tables are what follows from both.
 #[derive(Copy)]
-pub struct Code<F: Field> {
+pub struct Code<F: Field + Copy> {
     pub field: F,
     pub design: Design,
     tables: Tables,
@@ -31,7 +31,7 @@ pub struct Code<F: Field> {
 }
 
 // By hand: `Clone` cannot be derived where a ghost field speaks of a parameter.
-impl<F: Field> Clone for Code<F> {
+impl<F: Field + Copy> Clone for Code<F> {
     ghost is_clone = { λ code copy. copy ≡ code };
 
     ghost is_infallible = { λ _. Unit {0} };

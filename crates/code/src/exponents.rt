@@ -47,11 +47,12 @@ impl Marks {
         let mut exponent = start;
         while !self.marks[usize::from(exponent)] {
             self.marks[usize::from(exponent)] = true;
+            // narrowed without loss, which is proved
             exponent = (u32::from(exponent) * u32::from(factor) % u32::from(self.order)) as u16;
         }
     }
 
-    // How many numbers are marked.
+    // How many numbers are marked. The filter stands here and below, since a function cannot answer an iterator of no name.
     pub(crate) fn count(&self) -> usize
         ensures few { result ≤ self.now.order }
         ensures value { result ≡ length (marked_below self.now.order self.now.marks) }
@@ -61,7 +62,8 @@ impl Marks {
             .count()
     }
 
-    // Writes the marked numbers by their size to the front of the list, as many as it has places for.
+    // Writes the marked numbers by their size to the front of the list, as many as it has places for. Their places are counted: a `zip`
+    // with `iter_mut` leaves a proof nothing of what the list ends as.
     pub(crate) fn write(&self, list: &mut [u16])
         ensures { length (marked_below self.now.order self.now.marks) ≤ length list.old → take (length (marked_below self.now.order self.now.marks)) list.new ≡ marked_below self.now.order self.now.marks }
     {

@@ -92,6 +92,7 @@ impl CodeFault {
     }
 }
 
+// By hand: what a derive writes states no bytes.
 impl fmt::Display for CodeFault {
     ghost output = { λ fault. Some (code_words fault) };
 

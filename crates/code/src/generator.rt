@@ -7,7 +7,8 @@ use crate::block::LONGEST;
 use crate::words::multiply_by_factor;
 use field::Field;
 
-// Its coefficients, the highest degree first, stand in front. The product grows by a place with each factor, so places are counted.
+// Its coefficients, the highest degree first, stand in front. The product grows by a place with each factor, so places
+// are counted, and has memory for the longest: no heap is needed.
 pub(crate) fn generator_of<F: Field>(field: &F, exponents: &[u16]) -> [u16; LONGEST]
     requires { length exponents.now < 255 }
     ensures size { length result ≡ 255 }

@@ -6,6 +6,7 @@ use crate::CodeFault;
 use crate::words::first_outside;
 
 // Whether the word has `size` symbols, each below `limit`, and there is room for what is wanted.
+#[tactic(auto, using(crate::proofs::Outside::none_outside))]
 pub(crate) fn judge(
     size: usize,
     limit: u16,
@@ -22,6 +23,7 @@ pub(crate) fn judge(
         return Err(CodeFault::WordLength);
     }
     if let Some(place) = first_outside(limit, word) {
+        // no loss, since no word is longer than 255; there is no `From`
         return Err(CodeFault::Symbol(place as u32));
     }
     if room < wanted {

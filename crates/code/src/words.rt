@@ -70,6 +70,7 @@ pub(crate) fn first_outside(limit: u16, word: &[u16]) -> Option<usize>
 
 // Takes `steps` steps of the division by the polynomial with the coefficients 1 and then `divisor`. What they leave of the
 // word stands behind its first `steps` places. A step needs its place twice, so it is counted.
+#[tactic(auto, using(crate::proofs::Dividing::divide_turn))]
 pub(crate) fn divide<F: Field>(field: &F, steps: usize, divisor: &[u16], word: &mut [u16])
     requires { steps ≤ length word.old }
     ensures { drop steps word.new ≡ remainder (ops (F.meaning field.now)) steps divisor.now word.old }

@@ -34,6 +34,7 @@ impl Field for BinaryField {
         GROUND
     }
 
+    // In a text of its own, as in the prime field: not every field has this order.
     fn order(&self) -> u16 {
         self.size() - 1
     }

@@ -16,7 +16,7 @@ pub use prime::PrimeField;
 
 // A field, whose elements are the codes 0 to size - 1.
 // A number that is no code is answered by 0, and so is the inverse of 0.
-pub trait Field: Copy {
+pub trait Field {
     // the size, the ground size, the root and its order, and the operations on codes
     ghost meaning: { Self → Arith };
 
@@ -65,6 +65,7 @@ pub trait Field: Copy {
     }
 
     // `a` to the size less 2: its inverse, where the powers of the root are all codes but 0.
+    #[tactic(auto, using(algebra::proofs::Cyclic::inverse_is_power))]
     fn inverse_by_power(&self, a: u16) -> u16
         ensures { suc (meaning self.now).order ≡ (meaning self.now).size → result ≡ (meaning self.now).inv a }
     {

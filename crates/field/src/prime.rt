@@ -32,6 +32,7 @@ impl Field for PrimeField {
         self.modulus
     }
 
+    // In a text of its own, as in the binary field: not every field has this order.
     fn order(&self) -> u16 {
         self.modulus - 1
     }
@@ -58,6 +59,7 @@ impl Field for PrimeField {
 
     fn mul(&self, a: u16, b: u16) -> u16 {
         if a < self.modulus && b < self.modulus {
+            // narrowed without loss, which is proved
             (u32::from(a) * u32::from(b) % u32::from(self.modulus)) as u16
         } else {
             0

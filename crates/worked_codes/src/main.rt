@@ -22,7 +22,8 @@ fn run(rt: &HostRuntime) -> anyhow::Result<()> {
     Ok(())
 }
 
-// That the definitions give the marked examples is proved, on this program's own contract; that the program does is seen above.
+// Each program of examples has such a function, since each names its own theorem: the definitions give the marked examples. That the
+// program does is seen above.
 pub fn definitions_agree(rt: &HostRuntime) -> io::Result<()>
     ensures { code_examples ≡ true }
 {

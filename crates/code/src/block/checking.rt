@@ -11,7 +11,7 @@ use crate::judging::judge;
 use crate::words::{symbol_count, value_at};
 use field::Field;
 
-impl<F: Field> Code<F> {
+impl<F: Field + Copy> Code<F> {
     // Writes the check values of the word to the front of the list.
     pub fn check_values(&self, word: &[u16], list: &mut [u16]) -> Result<(), CodeFault>
         ensures answer { result_map_both (λ _. list.new) (λ fault. fault) result ≡ checking (F.meaning self.now.field) self.now.design word.now list.old }

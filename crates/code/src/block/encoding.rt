@@ -11,7 +11,7 @@ use crate::judging::judge;
 use crate::words::{clear_from, divide, negate, symbol_count, write_front};
 use field::Field;
 
-impl<F: Field> Code<F> {
+impl<F: Field + Copy> Code<F> {
     // Writes the codeword that begins with the message to the front of the buffer.
     pub fn encode(&self, message: &[u16], buffer: &mut [u16]) -> Result<(), CodeFault>
         ensures answer { result_map_both (λ _. buffer.new) (λ fault. fault) result ≡ encoding (F.meaning self.now.field) self.now.design message.now buffer.old }

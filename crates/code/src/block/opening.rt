@@ -14,6 +14,7 @@ use crate::words::{first_outside, symbol_count};
 use algebra::{Alphabet, Design};
 use field::Field;
 
+// Each `as` here narrows, or goes between 32 bits and `usize`, where there is no `From`; that it loses nothing is proved.
 const SHORTEST: u32 = 2;
 
 const LEAST_DISTANCE: u32 = 3;
@@ -44,6 +45,7 @@ fn factor_of<F: Field>(field: &F, alphabet: Alphabet) -> u16
 }
 
 // Marks on the exponents of the design's code.
+#[tactic(auto, using(crate::proofs::ExponentMarks::marks_are_exponents))]
 fn exponent_marks<F: Field>(field: &F, design: Design) -> Marks
     requires first { design.first < (F.meaning field.now).order }
     requires low { 3 ≤ design.distance }
@@ -55,7 +57,7 @@ fn exponent_marks<F: Field>(field: &F, design: Design) -> Marks
     Marks::of_run(field.order(), factor, design.first as u16, count)
 }
 
-impl<F: Field> Code<F> {
+impl<F: Field + Copy> Code<F> {
     // The code of this design over the field.
     pub fn open(field: F, design: Design) -> Result<Code<F>, CodeFault>
         ensures answer { result_map_both (λ code. code.design) (λ fault. fault) result ≡ opening (F.meaning field) design }

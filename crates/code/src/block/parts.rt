@@ -6,7 +6,8 @@ use crate::block::Code;
 use algebra::Alphabet;
 use field::Field;
 
-impl<F: Field> Code<F> {
+// `as usize` loses nothing, which is proved; there is no `From` for it.
+impl<F: Field + Copy> Code<F> {
     // Which symbols its words have.
     pub fn alphabet(&self) -> Alphabet
         ensures { result ≡ self.now.design.alphabet }

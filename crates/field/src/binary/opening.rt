@@ -14,6 +14,7 @@ const POLYNOMIALS: [u32; 9] = [7, 11, 19, 37, 67, 137, 285, 529, 1033];
 
 impl BinaryField {
     // The field of this degree whose products are reduced by this polynomial, bit i being its coefficient of x^i.
+    #[tactic(auto, using(algebra::proofs::RootReturns::root_returns))]
     pub fn open(degree: u32, polynomial: u32) -> Result<BinaryField, FieldFault>
         ensures answer { result_map_both ⟦<BinaryField as Field>⟧.meaning (λ fault. fault) result ≡ opening degree polynomial }
         ensures sound { IfOk result (λ field. Laws (⟦<BinaryField as Field>⟧.meaning field)) }
@@ -29,6 +30,7 @@ impl BinaryField {
     }
 
     // The field of this degree by the supplied polynomial.
+    #[tactic(auto, using(crate::proofs::Table::supplied_opens))]
     pub fn standard(degree: u32) -> Result<BinaryField, FieldFault>
         ensures answer { result_map_both ⟦<BinaryField as Field>⟧.meaning (λ fault. fault) result ≡ standard_opening degree }
         ensures sound { IfOk result (λ field. Laws (⟦<BinaryField as Field>⟧.meaning field)) }
@@ -36,6 +38,7 @@ impl BinaryField {
         if !is_degree(degree) {
             return Err(FieldFault::Degree);
         }
+        // `as usize` loses nothing, which is proved; there is no `From` for it
         BinaryField::open(degree, POLYNOMIALS[(degree - LOWEST_DEGREE) as usize])
     }
 }

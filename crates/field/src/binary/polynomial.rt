@@ -49,6 +49,7 @@ impl Polynomial {
         if !has_degree(bits, degree) {
             return Err(FieldFault::Polynomial);
         }
+        // narrowed without loss, which is proved
         Ok(Polynomial {
             degree: degree as u16,
             bits: bits as u16,

@@ -11,6 +11,7 @@ const ROOT: u16 = 3;
 
 impl PrimeField {
     // The field modulo 929 with the root 3.
+    #[tactic(auto, using(algebra::proofs::Computed::returns_929))]
     pub fn open() -> PrimeField
         ensures meaning { ⟦<PrimeField as Field>⟧.meaning result ≡ modulo 929 3 }
         ensures sound { Laws (⟦<PrimeField as Field>⟧.meaning result) }

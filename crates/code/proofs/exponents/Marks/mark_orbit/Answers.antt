@@ -1,16 +1,6 @@
-use Rattle.std.proofs.Common.{true, false, cond, not, arith}
-use Rattle.std.proofs.lemmas.List.Sums.{sum_by-set}
+use Rattle.std.proofs.Common.{arith}
 use Rattle.code.proofs.Marking.{orbit_goes_on}
 use Rattle.code.proofs.exponents.Marks.mark_orbit.Goals as goal
-
-pub loop-self-smaller : goal.loop-self-smaller
-loop-self-smaller c =
-    let l = c.loop-self in
-    let inside = l.invariant.orbit.inside in
-    let one_less = sum_by-set (λ b. cond (not b) 1 0) l.self.marks l.exponent true false (omega arith) in
-    let unmarked = rw c.from.ensures at c.loop-self-test.true in
-    let h = rw unmarked at one_less in
-    rw c.from-in-loop-self.ensures (omega arith)
 
 pub loop-self-preserved : goal.loop-self-preserved
 loop-self-preserved c =

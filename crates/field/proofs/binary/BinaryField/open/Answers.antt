@@ -2,24 +2,14 @@ use Rattle.std.proofs.Common.{rules, ◌-◌, ◌^◌}
 use Rattle.algebra.specs.Search.{Returns}
 use Rattle.algebra.specs.Binary.{binary}
 use Rattle.algebra.proofs.BinaryLaws.{binary_laws}
-use Rattle.algebra.proofs.RootReturns.{root_returns}
 use Rattle.algebra.proofs.Division.{product_is_remainder}
 use Rattle.field.proofs.binary.BinaryField.open.Goals as goal
-
-pub returns-in_err-polynomial-clause-root_returns : goal.returns-in_err-polynomial-clause-root_returns
-returns-in_err-polynomial-clause-root_returns c = root_returns
 
 pub returns-in_err-polynomial-clause-product_is_remainder : goal.returns-in_err-polynomial-clause-product_is_remainder
 returns-in_err-polynomial-clause-product_is_remainder c = product_is_remainder
 
-pub returns-then-exponent-polynomial-clause-root_returns : goal.returns-then-exponent-polynomial-clause-root_returns
-returns-then-exponent-polynomial-clause-root_returns c = root_returns
-
 pub returns-then-exponent-polynomial-clause-product_is_remainder : goal.returns-then-exponent-polynomial-clause-product_is_remainder
 returns-then-exponent-polynomial-clause-product_is_remainder c = product_is_remainder
-
-pub returns-clause-root_returns : goal.returns-clause-root_returns
-returns-clause-root_returns c = root_returns
 
 pub returns-clause-product_is_remainder : goal.returns-clause-product_is_remainder
 returns-clause-product_is_remainder c = product_is_remainder

@@ -1,4 +1,5 @@
-use Rattle.std.proofs.Common.{◌≡◌, suc, ◌+◌, ◌-◌, ◌^◌, sym, ap, ◌∙◌, refl, arith}
+use Rattle.std.proofs.Common.{◌≡◌, ◌+◌, ◌-◌, ◌^◌, sym, ap, ◌∙◌, refl, arith}
+use Rattle.std.proofs.lemmas.Grind.{common_steps}
 use Rattle.std.proofs.lemmas.Nat.{one_shl}
 use Rattle.algebra.specs.Arith.{iterate}
 use Rattle.algebra.specs.Search.{Returns}
@@ -11,11 +12,7 @@ use Rattle.field.proofs.binary.polynomial.Polynomial.first_return.Goals as goal
 
 -- the power after a step
 stepped : (c : After-times_x-power) → c.times_x-power.result ≡ iterate ((binary c.args.self.degree c.args.self.bits).mul 2) c.loop-exponent.exponent 1
-stepped c =
-    let step = (binary c.args.self.degree c.args.self.bits).mul 2 in
-    let e = c.loop-exponent.exponent in
-    let s : suc (e - 1) ≡ e = omega (arith, c.loop-exponent.auto.exponent) in
-    c.times_x-power.ensures.product ∙ ap step c.loop-exponent.invariant.1 ∙ ap (λ k. iterate step k 1) s
+stepped c = grind (arith, common_steps)
 
 pub loop-exponent-init : goal.loop-exponent-init
 loop-exponent-init c = let p = c.args.self in (one_below p.degree p.bits p.shape, refl, λ k pos h e. omega arith)
