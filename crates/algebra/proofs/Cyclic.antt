@@ -1,6 +1,6 @@
 -- A ring of codes whose root's powers first return to 1 at size - 1 is a field: the root's powers are all codes but 0,
 -- so a ^ (size - 2) is the inverse of a.
-use Rattle.std.proofs.Common.{◌≡◌, ℕ, zero, suc, ◌-◌, ◌<◌, ◌≤◌, eqb, ap, ◌∙◌, inl, inr, arith}
+use Rattle.std.proofs.Common.{◌≡◌, ℕ, zero, suc, ◌-◌, ◌<◌, ◌≤◌, eqb, sym, ap, ◌∙◌, inl, inr, arith}
 use Rattle.std.proofs.lemmas.Bool.{cases_eq, eqb-true, eq-eqb}
 use Rattle.std.proofs.lemmas.Bool.Decides.{nat_tests}
 use Rattle.algebra.specs.Arith.{Arith, Ring, Laws, power}
@@ -36,6 +36,17 @@ module _ (A : Arith) (R : Ring A) where
         let at = reaches (A.mul A.root) A.order ret (mul-zero A R A.root) (λ i. omega (arith, power_code A R A.root i)) a (omega arith) ne in
         cc (ap (power A.mul a) s, at.2, power_full at.0)
 
+    -- a ^ (size - 2) is the inverse of a, the exponent as a program has it
+    pub inverse_by_power : (a q : ℕ) → a < A.size → q ≡ A.size → power A.mul a (q - 2) ≡ inverse A.size A.mul a
+    inverse_by_power a q ha e =
+        let low = R.size_low in
+        let s : A.size - 2 ≡ suc (A.size - 3) = omega arith in
+        ap (λ n. power A.mul a (n - 2)) e
+        ∙ elim (cases_eq a 0) [
+          | inl z ↦ cc (ap (power A.mul a) s, zero-mul A R (power A.mul a (A.size - 3)), no_inverse 0 (zero-mul A R), z)
+          | inr ne ↦ sym (inverse_is a _ (power_code A R a (A.size - 2)) (fermat a ha ne))
+        ]
+
     pub field_laws : A.root < A.size → ((a : ℕ) → A.inv a ≡ inverse A.size A.mul a) → 2 ≤ A.ground_size → A.ground_size ≤ A.size
         → ((a : ℕ) → suc a < A.ground_size → A.add a 1 ≡ suc a) → ((a : ℕ) → suc a ≡ A.ground_size → A.add a 1 ≡ 0) → Laws A
     field_laws root inv-is ground_low ground_high add-one add_one_last =
@@ -57,14 +68,14 @@ module _ (A : Arith) (R : Ring A) where
           root_order = ret.1;
         }
 
--- in a field whose root's powers are all codes but 0, a ^ (size - 2) is the inverse of a, the exponent as a program has it
+-- in a field whose root's powers are all codes but 0 it is the inverse that the field has
 pub inverse_is_power : (A : Arith) → Laws A → suc A.order ≡ A.size → (a q : ℕ) → a < A.size → q ≡ A.size → power A.mul a (q - 2) ≡ A.inv a
 inverse_is_power A L full a q ha e =
     let R = L.ring in
     let low = L.order_low in
     let ret : Returns (A.mul A.root) A.order = (omega arith, L.root_order, λ k pos h one. omega (arith, L.root_different k 0 h (omega arith) one)) in
-    ap (λ n. power A.mul a (n - 2)) e
+    inverse_by_power A R full ret a q ha e
     ∙ elim (cases_eq a 0) [
-      | inl z ↦ let s : A.size - 2 ≡ suc (A.size - 3) = omega arith in cc (ap (power A.mul a) s, zero-mul A R (power A.mul a (A.size - 3)), L.inv-zero)
-      | inr ne ↦ one_inverse A R a _ _ (L.inv_code a) (power_code A R a (A.size - 2)) (L.mul-inv a ha ne) (fermat A R full ret a ha ne)
+      | inl z ↦ cc (z, no_inverse A R 0 (zero-mul A R), L.inv-zero)
+      | inr ne ↦ inverse_is A R a _ (L.inv_code a) (L.mul-inv a ha ne)
     ]

@@ -1,9 +1,11 @@
 -- Marking a set of numbers, an orbit after the other, and writing them to a list.
 use Rattle.std.proofs.lemmas.Grind.{common_steps}
-use Rattle.std.proofs.Common.{◌≡◌, ℕ, zero, suc, ◌+◌, ◌%◌, ◌<◌, ◌≤◌, Bool, true, false, T, ◌⊎◌, List, [], ◌∷◌, length, take, set, replicate, map, sym, refl, ap, ◌∙◌, subst, inl, inr, mod-lt, arith, below_more}
-use Rattle.std.specs.List.{enumerate_from}
-use Rattle.std.proofs.lemmas.List.FromFn.{length-enumerate_from}
-use Rattle.std.proofs.lemmas.List.{map-id, take_all}
+use Rattle.std.proofs.Common.{◌≡◌, ℕ, zero, suc, ◌+◌, ◌%◌, ◌<◌, ◌≤◌, Bool, true, false, T, ◌⊎◌, List, [], ◌∷◌, length, take, set, replicate, map, filter, sym, refl, ap, ◌∙◌, subst, inl, inr, mod-lt, arith, below_more}
+use Rattle.std.specs.List.{enumerate_from, range_with_len, sum_by}
+use Rattle.std.specs.Int.{from_bool}
+use Rattle.std.proofs.lemmas.List.FromFn.{length-enumerate_from, length-range_with_len, fill_by_all}
+use Rattle.std.proofs.lemmas.List.Sums.{sum_by-cons, length-filter, count_by-le-length}
+use Rattle.std.proofs.lemmas.List.{map-id, take_all, length-take-le, get_or-take}
 use Rattle.code.specs.Marks.{marked, step, Within, Closed, MarkedRun}
 
 -- what is marked after e was marked
@@ -86,3 +88,17 @@ pub all_written : (found list : List ℕ) (places : ℕ) (written : List (ℕ ×
 all_written found list places written fits each front =
     let all : written ≡ enumerate_from 0 found = sym (map-id written) ∙ each ∙ ap (enumerate_from 0) (take_all places found fits) in
     ap (λ n. take n list) (sym (ap length all ∙ length-enumerate_from 0 found)) ∙ front ∙ ap (map (λ p. p.1)) all ∙ without_places 0 found
+
+summed : (f : ℕ → Bool) (xs : List ℕ) → sum_by from_bool (map f xs) ≡ length (filter f xs)
+summed f [] = refl
+summed f (x ∷ xs) = grind (arith, common_steps, sum_by-cons from_bool (f x) (map f xs), summed f xs)
+
+-- the marks before place n, each as 0 or 1, come to how many numbers below n are marked
+pub marks_counted : (marks : List Bool) (n : ℕ) → n ≤ length marks → sum_by from_bool (take n marks) ≡ length (filter (marked marks) (range_with_len 0 n))
+marks_counted marks n fits =
+    ap (sum_by from_bool) (fill_by_all (marked marks) (take n marks) n false (length-take-le n marks fits) (λ k h. get_or-take n marks k false h))
+    ∙ summed (marked marks) (range_with_len 0 n)
+
+pub few_marked : (marks : List Bool) (n : ℕ) → length (filter (marked marks) (range_with_len 0 n)) ≤ n
+few_marked marks n =
+    omega (arith, length-filter (marked marks) (range_with_len 0 n), count_by-le-length (marked marks) (range_with_len 0 n), length-range_with_len 0 n)

@@ -21,8 +21,8 @@ pub(crate) const LONGEST: usize = 255;
 pub(crate) const MOST_CHECKS: usize = LONGEST - 1;
 
 // Made by `Code::open` alone: the field accepted the design, and the tables are what follows from both.
-#[derive(Copy)]
-pub struct Code<F: Field + Copy> {
+#[derive(Copy, Drop)]
+pub struct Code<F: Field> {
     pub field: F,
     pub design: Design,
     tables: Tables,

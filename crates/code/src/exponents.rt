@@ -52,23 +52,25 @@ impl Marks {
         }
     }
 
-    // How many numbers are marked. The filter stands here and below, since a function cannot answer an iterator of no name.
+    // How many numbers are marked: a sum, which looks at several marks at once.
     pub(crate) fn count(&self) -> usize
         ensures few { result ≤ self.now.order }
         ensures value { result ≡ length (marked_below self.now.order self.now.marks) }
     {
-        (0..self.order)
-            .filter(|e| self.marks[usize::from(*e)])
-            .count()
+        self.marks[..usize::from(self.order)]
+            .iter()
+            .map(|marked| usize::from(*marked))
+            .sum()
     }
 
-    // Writes the marked numbers by their size to the front of the list, as many as it has places for. Their places are counted: a `zip`
-    // with `iter_mut` leaves a proof nothing of what the list ends as.
-    pub(crate) fn write(&self, list: &mut [u16])
-        ensures { length (marked_below self.now.order self.now.marks) ≤ length list.old → take (length (marked_below self.now.order self.now.marks)) list.new ≡ marked_below self.now.order self.now.marks }
+    // Writes the lowest marked numbers, as many as are asked for, by their size to the front of the list. Their places are counted:
+    // a `zip` with `iter_mut` leaves a proof nothing of what the list ends as.
+    pub(crate) fn write(&self, count: usize, list: &mut [u16])
+        requires { count ≤ length list.old }
+        ensures { length (marked_below self.now.order self.now.marks) ≤ count → take (length (marked_below self.now.order self.now.marks)) list.new ≡ marked_below self.now.order self.now.marks }
     {
         let marked = (0..self.order).filter(|e| self.marks[usize::from(*e)]);
-        for (i, number) in marked.take(list.len()).enumerate() {
+        for (i, number) in marked.take(count).enumerate() {
             list[i] = number;
         }
     }

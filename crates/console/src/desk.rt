@@ -58,7 +58,19 @@ impl Desk {
     pub fn answer(&mut self, number: u64, line: &[u8]) -> Result<Option<String>, AllocError>
         ensures { (reading : Reading) × ReadAs line.now reading × IfOk result (λ text. option_map string_bytes text ≡ option_map (line_said number) (said (current self.old) reading)) × (current self.new ≡ current_read (current self.old) reading) }
     {
-        match self.carry_out(line) {
+        self.answer_read(number, Command::read(line))
+    }
+
+    // The answer to line `number`, which was read so.
+    fn answer_read(
+        &mut self,
+        number: u64,
+        reading: Result<Option<Command>, Complaint>,
+    ) -> Result<Option<String>, AllocError>
+        ensures answer { IfOk result (λ text. option_map string_bytes text ≡ option_map (line_said number) (said (current self.old) reading)) }
+        ensures after { current self.new ≡ current_read (current self.old) reading }
+    {
+        match self.carry_out(reading) {
             Ok(answer) => Ok(answer),
             Err(Failure::Complaint(complaint)) => {
                 complaint_text(self.heap, number, complaint).map(Some)
@@ -67,11 +79,15 @@ impl Desk {
         }
     }
 
-    // Reads a line, and carries out its command, if it has one.
-    fn carry_out(&mut self, line: &[u8]) -> Result<Option<String>, Failure>
-        ensures { (reading : Reading) × ReadAs line.now reading × CarriedOut (said (current self.old) reading) result × (current self.new ≡ current_read (current self.old) reading) }
+    // Carries out the command that was read, if the line has one.
+    fn carry_out(
+        &mut self,
+        reading: Result<Option<Command>, Complaint>,
+    ) -> Result<Option<String>, Failure>
+        ensures answer { CarriedOut (said (current self.old) reading) result }
+        ensures after { current self.new ≡ current_read (current self.old) reading }
     {
-        match Command::read(line)? {
+        match reading? {
             Some(command) => Ok(Some(self.obey(command)?)),
             None => Ok(None),
         }

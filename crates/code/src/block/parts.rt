@@ -7,7 +7,7 @@ use algebra::Alphabet;
 use field::Field;
 
 // `as usize` loses nothing, which is proved; there is no `From` for it.
-impl<F: Field + Copy> Code<F> {
+impl<F: Field> Code<F> {
     // Which symbols its words have.
     pub fn alphabet(&self) -> Alphabet
         ensures { result ≡ self.now.design.alphabet }

@@ -23,19 +23,19 @@ pub(crate) struct Tables {
 }
 
 impl Tables {
-    // The tables of the code whose exponents are marked.
-    pub(crate) fn of<F: Field>(field: &F, design: Design, marks: &Marks) -> Tables
+    // The tables of the code whose exponents are marked, and counted.
+    pub(crate) fn of<F: Field>(field: &F, design: Design, marks: &Marks, count: usize) -> Tables
         requires marks { marked_below marks.now.order marks.now.marks ≡ exponents (F.meaning field.now) design }
-        requires room { redundancy (F.meaning field.now) design < 255 }
+        requires counted { count ≡ redundancy (F.meaning field.now) design }
+        requires room { count < 255 }
         ensures { TablesOf (F.meaning field.now) design result }
     {
-        let redundancy = marks.count();
         let mut exponents = [0; MOST_CHECKS];
-        marks.write(&mut exponents);
-        let generator = generator_of(field, &exponents[0..redundancy]);
+        marks.write(count, &mut exponents);
+        let generator = generator_of(field, &exponents[0..count]);
         let start = field.power(field.root(), design.first);
         Tables {
-            redundancy,
+            redundancy: count,
             start,
             exponents,
             generator,

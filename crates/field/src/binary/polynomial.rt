@@ -10,6 +10,9 @@ pub(super) const LOWEST_DEGREE: u32 = 2;
 
 const HIGHEST_DEGREE: u32 = 10;
 
+// No field of these degrees has more codes.
+const MOST_CODES: u16 = 1 << HIGHEST_DEGREE;
+
 // The code of the polynomial x.
 pub(super) const X: u16 = 2;
 
@@ -56,18 +59,14 @@ impl Polynomial {
         })
     }
 
-    // The product of a code and x.
+    // The product of a code and x. Without a branch: whether the product is to be reduced is as good as random.
     pub(super) fn times_x(self, a: u16) -> u16
         requires { a < 2 ^ self.degree }
         ensures product { result ≡ (binary self.degree self.bits).mul 2 a }
         ensures code { result < 2 ^ self.degree }
     {
         let twice = 2 * a;
-        if twice >> self.degree == 1 {
-            twice ^ self.bits
-        } else {
-            twice
-        }
+        twice ^ self.bits * (twice >> self.degree)
     }
 
     // The first exponent from 1 on at which a power of x is 1.
@@ -76,7 +75,7 @@ impl Polynomial {
         ensures found { result ≡ root_return (binary self.degree self.bits) }
     {
         let mut power = 1;
-        for exponent in 1..1 << self.degree {
+        for exponent in 1..MOST_CODES {
             power = self.times_x(power);
             if power == 1 {
                 return exponent;

@@ -3,11 +3,7 @@ ghost use Rattle.algebra.specs.Arith.{Laws};
 ghost use Rattle.algebra.specs.Codes.{modulo};
 
 use crate::Field;
-use crate::prime::PrimeField;
-
-const MODULUS: u16 = 929;
-
-const ROOT: u16 = 3;
+use crate::prime::{MODULUS, PrimeField, ROOT};
 
 impl PrimeField {
     // The field modulo 929 with the root 3.

@@ -9,7 +9,7 @@ pub returns : goal.returns
 returns c = λ fits.
     let order = c.args.self.now.order in
     let marks = c.args.self.now.marks in
-    let places = length c.args.list.now in
+    let places = c.args.count in
     let end = YieldsList-end
     (YieldsList-at c.into_iter-i-iterator.ensures.into_iter_gives
     (YieldsList-from_enumerate

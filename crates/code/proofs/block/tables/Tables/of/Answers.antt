@@ -17,8 +17,8 @@ returns g c =
     let A = g.F.Field.meaning c.args.field.now in
     let D = c.args.design in
     let set = c.requires.marks in
-    let count : c.count-redundancy.result ≡ redundancy A D = c.count-redundancy.ensures.value ∙ ap length set in
-    let listed : take c.count-redundancy.result c.write.new.list ≡ exponents A D = search rules in
+    let count : c.args.count ≡ redundancy A D = c.requires.counted in
+    let listed : take c.args.count c.write.new.list ≡ exponents A D = search rules in
     record {
       redundancy_is = count;
       start_is = c.power-start.ensures ∙ ap (λ root. power A.mul root D.first) c.root.ensures;

@@ -1,6 +1,7 @@
-use Rattle.std.proofs.Common.{◌≡◌, ◌+◌, ◌-◌, ◌^◌, sym, ap, ◌∙◌, refl, arith}
+use Rattle.std.proofs.Common.{◌≡◌, ◌+◌, ◌-◌, ◌^◌, ◌<◌, ◌≤◌, sym, ap, ◌∙◌, refl, inl, inr, arith}
 use Rattle.std.proofs.lemmas.Grind.{common_steps}
-use Rattle.std.proofs.lemmas.Nat.{one_shl}
+use Rattle.std.proofs.lemmas.Bool.{cases_lt}
+use Rattle.std.proofs.Math.Pow.{pow_mono}
 use Rattle.algebra.specs.Arith.{iterate}
 use Rattle.algebra.specs.Search.{Returns}
 use Rattle.algebra.specs.Binary.{binary}
@@ -31,13 +32,13 @@ returns-then-power-eq1 c =
     let l = c.loop-exponent in
     let step = (binary p.degree p.bits).mul 2 in
     let ret : Returns step l.exponent = (l.auto.exponent, sym (stepped (goal.at.returns-then-power-eq1 c).After-times_x-power) ∙ c.if-power-eq1.true, l.invariant.2) in
-    let before = c.loop-exponent-test.true in
-    let order = one_shl p.degree 16 (omega (arith, p.shape.1)) in
+    let soon : l.exponent < 2 ^ p.degree =
+    elim (cases_lt l.exponent (2 ^ p.degree)) [ inl h ↦ h | inr h ↦ absurd (returns_soon p.degree p.bits p.shape p.odd (λ k pos lt. l.invariant.2 k pos (omega arith))) ] in
     record { returns = ret; found = sym (first_return step l.exponent (2 ^ p.degree - 1) ret (omega arith)) }
 
 pub unreachable-requires : goal.unreachable-requires
 unreachable-requires c =
     let p = c.args.self in
-    let order = one_shl p.degree 16 (omega (arith, p.shape.1)) in
+    let high : 2 ^ p.degree ≤ 2 ^ 10 = pow_mono {i = p.degree} {j = 10} (omega (arith, p.shape.1)) in
     let over = c.loop-exponent-test.false in
     returns_soon p.degree p.bits p.shape p.odd (λ k pos h. c.loop-exponent.invariant.2 k pos (omega arith))
