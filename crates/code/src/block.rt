@@ -1,7 +1,7 @@
 // An opened code: plain numbers beside the field that it was opened from.
 ghost use Rattle.std.specs.Prelude.{◌≡◌};
 ghost use Rattle.algebra.specs.BlockCode.{Accepted};
-ghost use Rattle.code.specs.Opened.{TablesOf};
+ghost use Rattle.code.specs.Opened.{TablesOf, Bounded};
 
 use algebra::Design;
 use field::Field;
@@ -12,6 +12,7 @@ mod checking;
 mod encoding;
 mod opening;
 mod parts;
+mod plain;
 mod tables;
 
 // No word is longer.
@@ -39,4 +40,13 @@ impl<F: Field + Copy> Clone for Code<F> {
     fn clone(&self) -> Result<Self, AllocError> {
         Ok(*self)
     }
+}
+
+// Made by an opening alone: the numbers of a code without its field, for whoever keeps that elsewhere. They are to be used beside
+// it, or any other field with the same tables; they can be copied, whatever the field, and are bound to no loan.
+#[derive(Clone, Copy)]
+pub struct PlainCode {
+    design: Design,
+    tables: Tables,
+    ghost bounded: { Bounded design tables },
 }

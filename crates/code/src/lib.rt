@@ -11,5 +11,5 @@ mod words;
 
 pub use algebra::{Alphabet, Design};
 pub use binary::open_binary;
-pub use block::Code;
+pub use block::{Code, PlainCode};
 pub use fault::CodeFault;

@@ -59,14 +59,15 @@ impl Polynomial {
         })
     }
 
-    // The product of a code and x. Without a branch: whether the product is to be reduced is as good as random.
+    // The product of a code and x. The polynomial has a bit of its degree, which twice the code must not have: of the two, the lower
+    // has none. No branch tests for it, since it is as good as random.
     pub(super) fn times_x(self, a: u16) -> u16
         requires { a < 2 ^ self.degree }
         ensures product { result ≡ (binary self.degree self.bits).mul 2 a }
         ensures code { result < 2 ^ self.degree }
     {
         let twice = 2 * a;
-        twice ^ self.bits * (twice >> self.degree)
+        twice.min(twice ^ self.bits)
     }
 
     // The first exponent from 1 on at which a power of x is 1.

@@ -1,4 +1,4 @@
-use Rattle.std.proofs.Common.{length, refl, rules, tests, arith}
+use Rattle.std.proofs.Common.{refl, rules, tests, arith}
 use Rattle.std.proofs.lemmas.Iterator.{YieldsList-from_range, YieldsList-from_take}
 use Rattle.std.proofs.lemmas.Iterator.Consumers.{YieldsList-from_filter, YieldsList-from_enumerate, YieldsList-at, YieldsList-end}
 use Rattle.code.specs.Marks.{marked, marked_below}

@@ -1,8 +1,0 @@
-use Rattle.algebra.proofs.Encoding.{checks_tell_codewords}
-use Rattle.code.proofs.block.Code.check_values_with.Goals as goal
-
-pub returns-in_err-judge-clause-tell_codewords : goal.returns-in_err-judge-clause-tell_codewords
-returns-in_err-judge-clause-tell_codewords g c = checks_tell_codewords _ c.args.self.now.design
-
-pub returns-clause-tell_codewords : goal.returns-clause-tell_codewords
-returns-clause-tell_codewords g c = checks_tell_codewords _ c.args.self.now.design

@@ -1,8 +1,0 @@
-use Rattle.algebra.proofs.Encoding.{encoding_is_codeword}
-use Rattle.code.proofs.block.Code.encode_with.Goals as goal
-
-pub returns-in_err-judge-clause-codeword : goal.returns-in_err-judge-clause-codeword
-returns-in_err-judge-clause-codeword g c accepted = encoding_is_codeword _ (g.met.G.Field.keeps c.args.field.now) c.args.self.now.design accepted
-
-pub returns-clause-codeword : goal.returns-clause-codeword
-returns-clause-codeword g c accepted = encoding_is_codeword _ (g.met.G.Field.keeps c.args.field.now) c.args.self.now.design accepted
