@@ -42,8 +42,8 @@ impl<F: Field + Copy> Clone for Code<F> {
     }
 }
 
-// Made by an opening alone: the numbers of a code without its field, for whoever keeps that elsewhere. They are to be used beside
-// it, or any other field with the same tables; they can be copied, whatever the field, and are bound to no loan.
+// Made by `PlainCode::open` and `Code::plain` alone: the numbers of a code without its field, for whoever keeps that elsewhere. They are
+// to be used beside it, or any other field with the same tables; they can be copied, whatever the field, and are bound to no loan.
 #[derive(Clone, Copy)]
 pub struct PlainCode {
     design: Design,
